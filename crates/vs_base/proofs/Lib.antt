@@ -1,0 +1,2 @@
+mod NumberExamples
+pub mod NumberLemmas

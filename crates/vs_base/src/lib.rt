@@ -1,0 +1,38 @@
+//! The values and the plain types that every crate speaks of.
+//!
+//! A value of the hardware language is a width in bits and a number below 2 to that width ([`Bits`]).
+//! Whether it is read with a sign is no part of it: the type of the expression that it came from says so
+//! ([`ValueType`]), and each call that depends on it takes a `signed`. The rules are those of
+//! IEEE 1800-2017, 11.6 (widths) and 11.8 (signs), at two states: a bit is 0 or 1.
+//!
+//! Each call on values is pinned by a definition of `specs/Number.antt` on width and number alone, so that
+//! upper crates never see a machine word. No call here refuses or takes memory, and each takes a fixed number
+//! of steps on words of 128 bits.
+//!
+//! Beside them stand [`Origin`], a place in a source file; [`Text`], a list of bytes; [`Act`], one step of a
+//! stimulus; [`Kind`], what a limit counts; and the [`limits`] themselves.
+//!
+//! ```text
+//! let a = Bits::new(4, 0b1000);       // 4'h8, which reads -8 with a sign
+//! a.extend(8, true)                   // 8'hf8
+//! a.slice(-1, 4)                      // 4'b0000: place -1 reads 0, and the top bit is cut
+//! Bits::new(8, 0).place(2, a)         // 8'b00100000
+//! a.add(Bits::new(4, 9))              // 4'h1
+//! ```
+#![tactic(auto)]
+
+mod act;
+mod bits;
+pub mod limits;
+mod origin;
+#[cfg(test)]
+mod tests;
+mod text;
+mod types;
+
+pub use act::Act;
+pub use bits::Bits;
+pub use limits::Kind;
+pub use origin::Origin;
+pub use text::Text;
+pub use types::ValueType;
