@@ -1,5 +1,5 @@
 -- The definitions of values, worked out at small numbers.
-use Rattle.std.proofs.Common.{ℕ, ◌≡◌, true, false, refl, pos, negsuc}
+use Rattle.std.proofs.Common.{◌≡◌, true, false, refl, pos, negsuc}
 use Rattle.vs_base.specs.Number.{Number, kept, signed_reading, extended, sliced, placed, added, conjoined, hex_digit_of, bin_digit_of}
 
 -- 12 in 4 bits and 8 in 4 bits, which reads -8 with a sign

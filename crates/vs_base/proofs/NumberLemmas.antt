@@ -1,11 +1,8 @@
 -- What the calls of `Bits` compute, over plain numbers.
-use Rattle.std.proofs.Common.{◌≡◌, ℕ, ◌+◌, ◌-◌, ◌*◌, ◌/◌, ◌%◌, ◌^◌, ◌<◌, ◌≤◌, Bool, true, false, cond, ltb, refl, sym, ap, ◌∙◌, subst, arith, ℤ, pos, negsuc, ◌-ℤ◌, ◌<ℤ◌, ◌≤ℤ◌}
-use Rattle.std.proofs.lemmas.Bool.{le-ltb, lt-ltb}
-use Rattle.std.proofs.lemmas.Int.{ints}
-use Rattle.std.specs.Int.RustNames.{unsigned_abs}
-use Rattle.std.proofs.lemmas.Nat.{mod-mul-add, pow_pos, pow-add, mod_below, div-add-mod', pow_below, div_below}
-use Rattle.std.proofs.Math.Nat.{div-eq_of_lt, pow-le-pow_right, mul-mod_left, mod-add-mod, add-mod-mod}
-use Rattle.vs_base.specs.Number.{Number, IsNumber, kept, extended, residue, reading, signed_reading, sliced, placed, overwritten, topmost}
+use Rattle.std.proofs.Common.{◌≡◌, ℕ, ◌+◌, ◌-◌, ◌*◌, ◌%◌, ◌^◌, ◌<◌, ◌≤◌, true, sym, ap, ◌∙◌, subst, arith}
+use Rattle.std.proofs.lemmas.Nat.{pow_pos, pow-add}
+use Rattle.std.proofs.Math.Nat.{pow-le-pow_right, mul-mod_left, mod-add-mod, add-mod-mod}
+use Rattle.vs_base.specs.Number.{Number, IsNumber, kept, extended}
 use Rattle.vs_base.specs.NumberLaws.{kept-kept, same_number, residue_down, extended-negative}
 
 pub residue_top : (w v w0 : ℕ) → w ≤ 128 → v < 2 ^ w0 → w0 ≤ 128 → (v + (2 ^ 128 - 2 ^ w0)) % 2 ^ w ≡ 2 ^ w - 1 - (2 ^ w0 - v - 1) % 2 ^ w

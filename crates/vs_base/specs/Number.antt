@@ -1,5 +1,5 @@
 -- A value: a width, and a number below 2 to that width (IEEE 1800-2017 11.6 and 11.8).
-use Rattle.std.specs.Prelude.{◌≡◌, ℕ, ◌+◌, ◌-◌, ◌*◌, ◌/◌, ◌%◌, ◌^◌, ◌<◌, ◌≤◌, Bool, false, nat_lt, if◌then◌else◌, bit_and, ℤ, pos, negsuc, ◌-ℤ◌}
+use Rattle.std.specs.Prelude.{ℕ, ◌+◌, ◌-◌, ◌*◌, ◌/◌, ◌%◌, ◌^◌, ◌<◌, ◌≤◌, Bool, false, nat_lt, if◌then◌else◌, bit_and, ℤ, pos, negsuc, ◌-ℤ◌}
 use Rattle.std.specs.Fmt.{digit_glyph}
 
 pub record Number : Type 0 where

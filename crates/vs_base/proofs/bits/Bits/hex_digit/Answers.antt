@@ -1,4 +1,4 @@
-use Rattle.std.proofs.Common.{ℕ, ◌*◌, ◌%◌, ◌^◌, ◌<◌, ◌≤◌, ◌≡◌, false, sym, ap, ◌∙◌, arith}
+use Rattle.std.proofs.Common.{ℕ, ◌*◌, ◌%◌, false, sym, ap, arith}
 use Rattle.std.specs.Fmt.{digit_glyph}
 use Rattle.vs_base.specs.NumberLaws.{high_is_zero}
 use Rattle.vs_base.proofs.NumberLemmas.{IsNumber-same}

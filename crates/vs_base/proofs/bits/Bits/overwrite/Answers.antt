@@ -1,4 +1,4 @@
-use Rattle.std.proofs.Common.{ℕ, ◌≡◌, ◌+◌, ◌*◌, ◌/◌, ◌%◌, ◌^◌, ap, sym, ◌∙◌}
+use Rattle.std.proofs.Common.{ℕ, ◌≡◌, ◌+◌, ◌*◌, ◌/◌, ◌%◌, ◌^◌, ap, ◌∙◌}
 use Rattle.vs_base.specs.Number.{Number, kept, overwritten}
 use Rattle.vs_base.proofs.NumberLemmas.{kept-word_sums}
 use Rattle.vs_base.proofs.bits.Bits.overwrite.Goals as goal

@@ -1,9 +1,9 @@
-use Rattle.std.proofs.Common.{ℕ, ◌≡◌, ◌≤◌, ◌<◌, ◌*◌, ◌-◌, ◌+◌, ◌^◌, ◌%◌, ap, sym, ◌∙◌, arith, pos, negsuc, to_z}
+use Rattle.std.proofs.Common.{◌≡◌, ◌≤◌, ◌*◌, ◌-◌, ◌^◌, ◌%◌, ap, sym, ◌∙◌, arith, pos, to_z}
 use Rattle.std.specs.Int.{w128}
 use Rattle.std.proofs.lemmas.Int.{ints}
 use Rattle.std.proofs.lemmas.Nat.{one_shl}
 use Rattle.vs_base.specs.Number.{Number, signed_reading}
-use Rattle.vs_base.specs.NumberLaws.{signed_reading-negative, signed_reading-positive}
+use Rattle.vs_base.specs.NumberLaws.{signed_reading-positive}
 use Rattle.vs_base.proofs.NumberLemmas.{low_power}
 use Rattle.vs_base.proofs.bits.Bits.signed_of.Goals as goal
 

@@ -1,4 +1,4 @@
-use Rattle.std.proofs.Common.{ℕ, ◌≡◌, ◌+◌, ◌*◌, ◌^◌, pos, ◌<ℤ◌, rules, ap, sym, ◌∙◌, w64, to_z, of_z, ℤ}
+use Rattle.std.proofs.Common.{ℕ, ◌≡◌, ◌*◌, ◌^◌, pos, ◌<ℤ◌, rules, ap, sym, ◌∙◌, w64}
 use Rattle.std.specs.Int.RustNames.{unsigned_abs}
 use Rattle.std.proofs.lemmas.Int.{to_z-of_z}
 use Rattle.vs_base.specs.Number.{Number, kept, sliced}
