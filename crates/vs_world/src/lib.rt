@@ -23,8 +23,10 @@
 //! ```
 #![tactic(auto)]
 
+mod real;
 mod whole;
 mod world;
 
+pub use real::RealWorld;
 pub use whole::{ReadFault, read_all, write_all};
 pub use world::{Fault, Stream, World};
