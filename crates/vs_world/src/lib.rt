@@ -23,10 +23,12 @@
 //! ```
 #![tactic(auto)]
 
+mod memory;
 mod real;
 mod whole;
 mod world;
 
+pub use memory::{MemFile, MemWorld, Op, Planned};
 pub use real::RealWorld;
 pub use whole::{ReadFault, read_all, write_all};
 pub use world::{Fault, Stream, World};
