@@ -25,6 +25,8 @@
 
 mod memory;
 mod real;
+#[cfg(test)]
+mod tests;
 mod whole;
 mod world;
 

@@ -65,6 +65,20 @@ impl<R: Files, O: Write, E: Write> RealWorld<R, O, E> {
         }
     }
 
+    /// How many calls failed, but for files that could not be opened for reading.
+    pub fn fault_count(&self) -> u64
+        ensures { result ≡ ⟦<RealWorld<R, O, E> as World>⟧.faults self.now }
+    {
+        self.faults
+    }
+
+    /// How many reads failed since the file could not be opened for reading.
+    pub fn absent_count(&self) -> u64
+        ensures { result ≡ ⟦<RealWorld<R, O, E> as World>⟧.absent self.now }
+    {
+        self.absent
+    }
+
     // A failure that is no missing file.
     fn failed(&mut self) -> Fault
         ensures later { self.old.faults ≤ self.new.faults }
