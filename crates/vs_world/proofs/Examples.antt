@@ -1,11 +1,10 @@
 -- The definitions at small values.
-use Rattle.std.proofs.Common.{◌≡◌, ◌<◌, ◌≤◌, ℕ, ◌-◌, ◌^◌, lit≤, Bool, true, false, List, [], ◌∷◌, Option, Some, None, refl, inl, inr}
+use Rattle.std.proofs.Common.{◌≡◌, ◌-◌, ◌^◌, lit≤, true, false, [], ◌∷◌, Some, refl, inl}
 use Rattle.std.specs.Prelude.{codes}
-use Rattle.std.specs.Option.{option_map}
-use Rattle.vs_world.specs.declared.world.Stream.TheVariants.{Out, Errors, Calls, Vcd}
+use Rattle.vs_world.specs.declared.world.Stream.TheVariants.{Out, Errors, Vcd}
 use Rattle.vs_world.specs.declared.memory.Op.TheVariants.{Read, Create, Write}
-use Rattle.vs_world.specs.Outside.{Files, Written, Made, appended, stream_bytes, IsOpen, IsCreatable, Rose, IsMissing}
-use Rattle.vs_world.specs.Memory.{Memory, fresh, is_planned, called, is_read_failing, read_size, after_read, is_write_failing, write_size, after_write, is_create_failing, after_create}
+use Rattle.vs_world.specs.Outside.{appended, stream_bytes, IsCreatable, Rose}
+use Rattle.vs_world.specs.Memory.{Memory, fresh, is_planned, called, read_size, after_read, is_write_failing, after_write, is_create_failing, after_create}
 
 -- no files; calls move two bytes, streams hold three, and the second read and the first creation are to fail
 small : Memory

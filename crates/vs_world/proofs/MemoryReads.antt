@@ -1,9 +1,8 @@
 -- A read of a world in memory, by what it finds.
-use Rattle.std.proofs.Common.{◌≡◌, ℕ, ◌+◌, ◌-◌, ◌<◌, ◌≤◌, min, Bool, true, false, List, length, take, drop, Option, Some, None, refl, sym, ap, ◌∙◌, subst, inr, arith}
-use Rattle.std.specs.Prelude.{◌||◌, is_none, if◌then◌else◌, IfSome, IsTrue}
-use Rattle.std.proofs.lemmas.Bool.{false≢true}
+use Rattle.std.proofs.Common.{◌≡◌, ℕ, ◌-◌, ◌<◌, ◌≤◌, min, Bool, true, false, List, length, take, drop, Option, Some, None, sym, ap, ◌∙◌, inr, arith}
+use Rattle.std.specs.Prelude.{◌||◌, is_none, if◌then◌else◌}
 use Rattle.vs_world.specs.declared.memory.Op.TheVariants.{Read}
-use Rattle.vs_world.specs.Outside.{Rose, ReadsAt, ReadCause, ReadCounts}
+use Rattle.vs_world.specs.Outside.{ReadsAt, ReadCause, ReadCounts}
 use Rattle.vs_world.specs.Memory.{Memory, is_planned, called, faulted, missed, is_read_failing, read_size, after_read}
 
 -- the read found the file

@@ -1,9 +1,7 @@
 -- What a world's calls do to its files, its streams and its two counts.
-use Rattle.std.specs.Prelude.{◌≡◌, ◌⊎◌, ◌↔◌, ℕ, ◌+◌, ◌-◌, ◌^◌, ◌<◌, ◌≤◌, min, List, [], ◌∷◌, ◌++◌, length, take, drop, Option, Some, None, Result, IfOk, OnOk, OnErr, IfErr, IfSome, IsErrOf}
-use Rattle.std.specs.Option.{option_map}
+use Rattle.std.specs.Prelude.{◌≡◌, ◌⊎◌, ◌↔◌, ℕ, ◌+◌, ◌-◌, ◌^◌, ◌<◌, ◌≤◌, min, List, [], ◌∷◌, ◌++◌, length, take, drop, Option, Some, None, IfSome}
 use Rattle.vs_world.specs.declared.world.Stream.{Stream}
 use Rattle.vs_world.specs.declared.world.Stream.TheVariants.{Out, Errors, Calls, Vcd}
-use Rattle.vs_world.specs.declared.world.Fault.{Fault}
 
 -- the files by their names
 abbrev pub Files : Type 0

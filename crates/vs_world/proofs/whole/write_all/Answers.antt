@@ -1,6 +1,6 @@
-use Rattle.std.proofs.Common.{ℕ, List, ◌≡◌, ◌≤◌, ◌-◌, ◌+◌, ◌++◌, length, take, drop, ap, sym, ◌∙◌, arith, length-drop}
+use Rattle.std.proofs.Common.{◌-◌, length, take, drop, ap, ◌∙◌, arith, length-drop}
 use Rattle.std.specs.Option.{option_map}
-use Rattle.vs_world.specs.Outside.{Written, appended}
+use Rattle.vs_world.specs.Outside.{appended}
 use Rattle.vs_world.proofs.Pieces.{told-more}
 use Rattle.vs_world.proofs.whole.write_all.Goals as goal
 
