@@ -84,9 +84,10 @@ impl Names {
         self.texts.as_slice()[id.0 as usize].as_slice()
     }
 
-    /// How many names the table has, at most 2^32.
+    /// How many names the table has, each once and at most 2^32.
     pub fn len(&self) -> usize
         ensures value { result ≡ length self.now }
+        ensures once { EachOnce self.now }
         ensures few { result ≤ 2 ^ 32 }
     {
         self.texts.len()
