@@ -1,12 +1,11 @@
 -- Small examples of the definitions, worked by hand from the standard.
-use Rattle.std.specs.Prelude.{◌≡◌, ℕ, List, [], ◌∷◌, map, Option, Some, None, Bool, true, false, codes}
-use Rattle.std.specs.List.{position_from}
+use Rattle.std.specs.Prelude.{◌≡◌, ℕ, List, [], ◌∷◌, map, Some, true, false, codes}
 use Rattle.std.proofs.Common.{refl}
 use Rattle.sv_tree.specs.declared.token.TokenKind.TheVariants as kind
 use Rattle.sv_lex.specs.declared.piece.Piece.TheVariants.{Skipped, Spelled, Wrong}
 use Rattle.sv_lex.specs.declared.piece.Defect.TheVariants as defect
 use Rattle.sv_lex.specs.Spelling.{spelling, is_word, is_mark_1, is_mark_2, is_mark_3}
-use Rattle.sv_lex.specs.Cut.{front, longest, cut, start, Cut}
+use Rattle.sv_lex.specs.Cut.{front, longest, cut, start}
 use Rattle.sv_lex.specs.Lexeme.{Lexeme, lexeme_of}
 use Rattle.sv_lex.specs.Number.{is_number, value}
 

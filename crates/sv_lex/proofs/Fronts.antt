@@ -1,20 +1,18 @@
 -- The longest spelling at the front is what the scan finds.
-use Rattle.std.proofs.Common.{◌≡◌, ◌≤◌, ◌<◌, ℕ, zero, suc, ◌+◌, ◌-◌, Bool, true, false, cond, ◌&&◌, ◌||◌, ◌==◌, if◌then◌else◌, ◌⊎◌, inl, inr, List, [], ◌∷◌, length, take, drop, Option, Some, None, refl, sym, ap, ◌∙◌, arith, true≢false, subst, add-one}
-use Rattle.std.specs.Prelude.{not}
-use Rattle.std.specs.List.{prefix_len, list_all}
+use Rattle.std.proofs.Common.{◌≡◌, ℕ, suc, ◌+◌, Bool, true, false, ◌&&◌, ◌||◌, ◌==◌, if◌then◌else◌, ◌⊎◌, inl, inr, [], ◌∷◌, take, Option, Some, None, refl, sym, ap, ◌∙◌, arith, true≢false}
+use Rattle.std.specs.List.{list_all}
 use Rattle.std.proofs.lemmas.Bool.{eqb-true}
 use Rattle.sv_tree.specs.declared.token.TokenKind.{TokenKind}
 use Rattle.sv_tree.specs.declared.token.TokenKind.TheVariants as kind
-use Rattle.sv_lex.specs.declared.piece.Piece.{Piece}
-use Rattle.sv_lex.specs.declared.piece.Piece.TheVariants.{Skipped, Spelled, Wrong}
+use Rattle.sv_lex.specs.declared.piece.Piece.TheVariants.{Spelled, Wrong}
 use Rattle.sv_lex.specs.declared.piece.Defect.TheVariants as defect
 use Rattle.sv_lex.specs.declared.piece.Class.TheVariants as class
-use Rattle.sv_lex.specs.Spelling.{Bytes, Spells, spelling, is_empty, closes, ends_comment, is_letter, is_name, is_name_byte, after_sign, after_quote, is_base, is_sign, is_fill, is_based_byte, is_mark, is_mark_1, is_mark_2, is_mark_3, after_slash, is_not_line_feed, is_word, is_blank, is_decimal_byte}
+use Rattle.sv_lex.specs.Spelling.{Bytes, spelling, is_empty, closes, is_letter, is_name, is_name_byte, after_sign, after_quote, is_base, is_sign, is_fill, is_based_byte, is_word, is_decimal_byte}
 use Rattle.std.specs.Char.{is_ascii_digit}
-use Rattle.sv_lex.specs.Cut.{front, opens_comment, piece_of, is_zero}
-use Rattle.sv_lex.specs.Scan.{scan, run, closing, comment_end, marked, based, quoted, word, mark, mark_len, slash, text_by, comment_by}
+use Rattle.sv_lex.specs.Cut.{front, opens_comment, is_zero}
+use Rattle.sv_lex.specs.Scan.{run, closing, marked, based, quoted, word, text_by}
 use Rattle.sv_lex.proofs.Greatest.{which}
-use Rattle.sv_lex.proofs.Longest.{Ends, Never, ends_after, never_after, never_here, ends_empty, ends_all, never_nil, front_at, front_comment, front_none, Found, found_closing, found_comment_end}
+use Rattle.sv_lex.proofs.Longest.{ends_after, never_after, never_here, ends_empty, ends_all, never_nil, front_at, front_none, Found, found_closing}
 
 -- a byte that passes a test is no byte that fails it
 pub apart : (p : ℕ → Bool) (b k : ℕ) → p b ≡ true → p k ≡ false → (b == k) ≡ false

@@ -1,18 +1,14 @@
-use Rattle.std.proofs.Common.{◌≡◌, ◌≤◌, ◌<◌, ℕ, zero, suc, ◌+◌, ◌-◌, Bool, true, false, cond, ◌&&◌, ◌||◌, ◌==◌, if◌then◌else◌, ◌⊎◌, inl, inr, List, [], ◌∷◌, length, take, drop, Option, Some, None, refl, sym, ap, ◌∙◌, arith, true≢false, subst}
+use Rattle.std.proofs.Common.{◌≡◌, ◌≤◌, ◌<◌, ℕ, zero, suc, ◌+◌, Bool, true, false, ◌&&◌, ◌==◌, if◌then◌else◌, ◌⊎◌, inl, inr, [], ◌∷◌, length, take, Option, Some, None, refl, ap, ◌∙◌, arith}
 use Rattle.std.specs.Prelude.{not}
 use Rattle.std.specs.Option.{is_some}
 use Rattle.std.specs.List.{prefix_len, list_all}
 use Rattle.std.proofs.lemmas.List.Sums.{prefix_len-le-length}
 use Rattle.sv_tree.specs.declared.token.TokenKind.{TokenKind}
-use Rattle.sv_tree.specs.declared.token.TokenKind.TheVariants as kind
-use Rattle.sv_lex.specs.declared.piece.Piece.{Piece}
-use Rattle.sv_lex.specs.declared.piece.Piece.TheVariants.{Skipped, Spelled, Wrong}
+use Rattle.sv_lex.specs.declared.piece.Piece.TheVariants.{Wrong}
 use Rattle.sv_lex.specs.declared.piece.Defect.TheVariants as defect
-use Rattle.sv_lex.specs.declared.piece.Class.TheVariants as class
-use Rattle.sv_lex.specs.Spelling.{Bytes, Spells, spelling, is_empty, closes, ends_comment, is_letter, is_name, is_name_byte, after_sign, after_quote, is_base, is_sign, is_fill, is_based_byte, is_mark, is_mark_1, is_mark_2, is_mark_3, after_slash, is_not_line_feed, is_word, is_blank, is_decimal_byte}
-use Rattle.std.specs.Char.{is_ascii_digit}
-use Rattle.sv_lex.specs.Cut.{greatest, longest, front, front_by, is_zero, opens_comment, opens_string, piece_of}
-use Rattle.sv_lex.specs.Scan.{scan, run, closing, comment_end, marked, based, quoted, word, mark, mark_len, slash, text_by, comment_by}
+use Rattle.sv_lex.specs.Spelling.{Bytes, spelling, is_empty, closes, ends_comment}
+use Rattle.sv_lex.specs.Cut.{longest, front, front_by, is_zero, opens_comment, piece_of}
+use Rattle.sv_lex.specs.Scan.{closing, comment_end}
 use Rattle.sv_lex.proofs.Greatest.{which, greatest_at, greatest_none, all_front, not_all_past}
 
 -- the front of k elements is the longest that passes

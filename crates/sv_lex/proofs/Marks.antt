@@ -1,20 +1,18 @@
 -- The longest spelling at the front where it is a mark or a comment, and the whole.
-use Rattle.std.proofs.Common.{◌≡◌, ◌≤◌, ◌<◌, ℕ, zero, suc, ◌+◌, ◌-◌, Bool, true, false, cond, ◌&&◌, ◌||◌, ◌==◌, if◌then◌else◌, ◌⊎◌, inl, inr, List, [], ◌∷◌, length, take, drop, Option, Some, None, refl, sym, ap, ◌∙◌, arith, true≢false, subst, add-one}
-use Rattle.std.specs.Prelude.{not}
-use Rattle.std.specs.List.{prefix_len, list_all}
+use Rattle.std.proofs.Common.{◌≡◌, ◌≤◌, ◌<◌, ℕ, zero, suc, ◌+◌, Bool, true, false, ◌&&◌, ◌||◌, ◌==◌, if◌then◌else◌, ◌⊎◌, inl, inr, [], ◌∷◌, length, take, Option, Some, None, refl, sym, ap, ◌∙◌, arith}
+use Rattle.std.specs.List.{list_all}
 use Rattle.std.proofs.lemmas.Bool.{eqb-true}
 use Rattle.sv_tree.specs.declared.token.TokenKind.{TokenKind}
 use Rattle.sv_tree.specs.declared.token.TokenKind.TheVariants as kind
-use Rattle.sv_lex.specs.declared.piece.Piece.{Piece}
-use Rattle.sv_lex.specs.declared.piece.Piece.TheVariants.{Skipped, Spelled, Wrong}
+use Rattle.sv_lex.specs.declared.piece.Piece.TheVariants.{Spelled, Wrong}
 use Rattle.sv_lex.specs.declared.piece.Defect.TheVariants as defect
 use Rattle.sv_lex.specs.declared.piece.Class.TheVariants as class
-use Rattle.sv_lex.specs.Spelling.{Bytes, Spells, spelling, is_empty, ends_comment, is_letter, is_mark, is_mark_1, is_mark_2, is_mark_3, after_slash, is_not_line_feed, is_blank}
+use Rattle.sv_lex.specs.Spelling.{Bytes, spelling, is_empty, ends_comment, is_letter, is_mark, is_mark_1, is_mark_2, is_mark_3, after_slash, is_not_line_feed, is_blank}
 use Rattle.std.specs.Char.{is_ascii_digit}
 use Rattle.sv_lex.specs.Cut.{front, longest, opens_comment, piece_of, is_zero}
 use Rattle.sv_lex.specs.Scan.{scan, run, comment_end, mark, mark_len, slash, comment_by}
 use Rattle.sv_lex.proofs.Greatest.{which}
-use Rattle.sv_lex.proofs.Longest.{Ends, Never, ends_after, never_after, never_here, ends_empty, ends_all, never_nil, front_at, front_comment, front_none, Found, found_comment_end}
+use Rattle.sv_lex.proofs.Longest.{Ends, Never, ends_after, ends_empty, ends_all, never_nil, front_at, front_comment, front_none, Found, found_comment_end}
 use Rattle.sv_lex.proofs.Fronts.{apart, no_comment, front_word, front_decimal, front_marked, front_text, front_quoted}
 
 abbrev mark_from : ℕ → Bytes → Bool

@@ -1,7 +1,7 @@
 -- Laws of the cut, for the crates above: one step at a time, how many tokens there are, and what the tokens of an answer spell.
-use Rattle.std.specs.Prelude.{◌≡◌, ◌≤◌, ◌<◌, ℕ, ◌+◌, ◌-◌, Bool, ◌&&◌, if◌then◌else◌, List, [], ◌∷◌, ◌++◌, length, take, drop, map, slice_get, get_or, Some, None}
+use Rattle.std.specs.Prelude.{◌≡◌, ◌≤◌, ◌<◌, ℕ, ◌-◌, Bool, ◌&&◌, if◌then◌else◌, List, [], ◌∷◌, length, take, drop, map, Some, None}
 use Rattle.std.specs.Option.{is_some}
-use Rattle.std.proofs.Common.{zero, suc, true, false, refl, sym, ap, ◌∙◌, arith, length-append, length-drop}
+use Rattle.std.proofs.Common.{zero, suc, true, false, refl, ap, ◌∙◌, arith}
 use Rattle.sv_tree.specs.declared.token.Token.{Token}
 use Rattle.sv_tree.specs.declared.token.TokenKind.{TokenKind}
 use Rattle.sv_tree.specs.Tokens.{AreNamed}
@@ -14,7 +14,7 @@ use Rattle.sv_lex.specs.declared.piece.Defect.{Defect}
 use Rattle.sv_lex.specs.declared.piece.Defect.TheVariants as defect
 use Rattle.sv_lex.specs.Spelling.{Bytes, Spells, spelling}
 use Rattle.sv_lex.specs.Cut.{greatest, longest, front, front_by, is_zero, opens_comment, piece_of, Within, Lexed, Cut, next, before, cut_by, cut_from, cut, advance}
-use Rattle.sv_lex.specs.Lexeme.{Lexeme, spelled, lexeme_of}
+use Rattle.sv_lex.specs.Lexeme.{spelled, lexeme_of}
 use Rattle.sv_lex.specs.Answer.{Shows, ShowsAll}
 
 -- ---- a piece lies within the bytes
