@@ -1,3 +1,4 @@
+-- A number only grows as its digits are read.
 use Rattle.std.proofs.Common.{◌≡◌, ◌≤◌, ℕ, ◌+◌, ◌*◌, ◌^◌, Bool, true, false, cond, ◌&&◌, ◌||◌, ◌==◌, ◌⊎◌, inl, inr, [], ◌∷◌, length, get_or, refl, ap, arith}
 use Rattle.std.specs.List.{list_any}
 use Rattle.sv_lex.specs.Spelling.{Bytes}

@@ -54,6 +54,7 @@ fn advance(mut at: Origin, mut bytes: &[u8]) -> Origin
     at
 }
 
+/// The fault that a defect is.
 fn fault(defect: Defect, at: Origin) -> LexFault
     ensures { (c : spec.Cut) → (most : ℕ) → c.fault ≡ Some (defect, at) → length c.tokens ≤ most → FaultIs most result c }
 {

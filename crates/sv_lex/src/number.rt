@@ -7,6 +7,7 @@ ghost use Rattle.sv_lex.specs.Number as spec;
 
 use sv_tree::{Names, Token, TokenKind};
 
+/// The value of a digit of base 16 at most, and 16 for another byte.
 fn digit(b: u8) -> u8
     ensures { result ≡ spec.digit b }
 {
@@ -30,6 +31,7 @@ fn base_of(b: u8) -> u8
     }
 }
 
+/// Some digits of the base, with a value below 2^64.
 fn is_digits(base: u8, text: &[u8]) -> bool
     requires { (2 ≤ base) × (base ≤ 16) }
     ensures { result ≡ spec.is_digits base text.now }

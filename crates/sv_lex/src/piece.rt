@@ -85,6 +85,7 @@ fn is_blank(b: u8) -> bool
     b == b' ' || b == b'\t' || b == b'\n' || b == b'\r' || b == 12
 }
 
+/// How many bytes at the front are of the class.
 fn run(class: Class, z: &[u8]) -> usize
     ensures value { result ≡ spec.run class z.now }
     ensures within { result ≤ length z.now }
@@ -108,6 +109,7 @@ fn has_text(mut table: &[&[u8]], text: &[u8]) -> bool
     false
 }
 
+/// Whether the name is a reserved word: most of them differ from it in length.
 #[tactic(auto, unfolding(crate::specs::Spelling::is_word))]
 fn is_word(text: &[u8]) -> bool
     ensures { result ≡ spelling.is_word text.now }
@@ -172,6 +174,7 @@ fn is_mark_3(a: u8, b: u8, c: u8) -> bool
     has_triple(MARKS_3, a, b, c)
 }
 
+/// A name or a reserved word.
 fn word(z: &[u8]) -> Piece
     ensures { result ≡ spec.word z.now }
 {
@@ -187,6 +190,7 @@ fn word(z: &[u8]) -> Piece
     Piece::Spelled(kind, len)
 }
 
+/// A name after a `$` or a backquote.
 fn marked(kind: TokenKind, z: &[u8]) -> Piece
     requires { length z.now < 2 ^ 32 }
     ensures { result ≡ spec.marked kind z.now }
@@ -201,6 +205,7 @@ fn marked(kind: TokenKind, z: &[u8]) -> Piece
     }
 }
 
+/// A base and its digits, after so many bytes of the token.
 fn based(before: usize, z: &[u8]) -> Piece
     requires short { length z.now < 2 ^ 32 }
     requires few { before ≤ 2 }
@@ -216,6 +221,7 @@ fn based(before: usize, z: &[u8]) -> Piece
     }
 }
 
+/// What follows a `'`.
 fn quoted(z: &[u8]) -> Piece
     requires { length z.now < 2 ^ 32 }
     ensures { result ≡ spec.quoted z.now }
@@ -232,6 +238,7 @@ fn quoted(z: &[u8]) -> Piece
     }
 }
 
+/// The length of the string whose first `"` stands before the bytes.
 fn closing(mut z: &[u8]) -> Option<usize>
     requires { length z.now < 2 ^ 32 }
     ensures { result ≡ spec.closing 1 0 z.entry.now }
@@ -252,6 +259,7 @@ fn closing(mut z: &[u8]) -> Option<usize>
     None
 }
 
+/// The length of the comment whose `/*` stands before the bytes.
 fn comment_end(mut z: &[u8]) -> Option<usize>
     requires { length z.now < 2 ^ 32 }
     ensures { result ≡ spec.comment_end 2 z.entry.now }
@@ -270,6 +278,7 @@ fn comment_end(mut z: &[u8]) -> Option<usize>
     None
 }
 
+/// The length of the longest mark at the front, or 0.
 fn mark_len(z: &[u8]) -> usize
     ensures { result ≡ spec.mark_len z.now }
 {
@@ -300,6 +309,7 @@ fn mark(z: &[u8]) -> Piece
     }
 }
 
+/// A comment or a mark; the slash stands before `rest`.
 fn slash(z: &[u8], rest: &[u8]) -> Piece
     requires short { length z.now < 2 ^ 32 }
     requires front { z.now ≡ 47 ∷ rest.now }
