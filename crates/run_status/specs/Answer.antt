@@ -1,0 +1,124 @@
+-- What a command is answered, and what each status says of the streams.
+use Rattle.std.specs.Prelude.{◌≡◌, ◌⊎◌, ℕ, List, [], ◌++◌, Option, codes, Contains}
+use Rattle.std.specs.Option.{option_map}
+use Rattle.vs_world.specs.declared.world.Stream.TheVariants.{Errors}
+use Rattle.vs_world.specs.Outside.{Written, appended, Rose}
+use Rattle.run_status.specs.declared.status.Status.{Status}
+use Rattle.run_status.specs.declared.status.Status.TheVariants as status
+use Rattle.run_status.specs.Written.{IsPrefix, Said}
+
+abbrev pub exit_code : Status → ℕ
+exit_code status.Done = 0
+exit_code status.Refused = 1
+exit_code status.WorldFault = 2
+exit_code status.NoMemory = 3
+
+-- ---- the answer
+
+-- the texts of standard output, the call log and the waveform
+pub record Output : Type 0 where
+  pub out : List ℕ
+  pub calls : List ℕ
+  pub vcd : List ℕ
+
+abbrev pub nothing : Output
+nothing = record { out = []; calls = []; vcd = [] }
+
+-- a command is refused by a line, or a named file is not there, or it writes texts
+pub data Answer : Type 0 where
+  Refused : List ℕ → Answer
+  Unread : List ℕ → Answer
+  Texts : Output → Answer
+
+-- the texts of an answer; a refused command has none
+abbrev pub output_of : Answer → Output
+output_of (Refused line) = nothing
+output_of (Unread name) = nothing
+output_of (Texts output) = output
+
+-- ---- the lines on standard error
+
+abbrev pub error_line : List ℕ → List ℕ
+error_line text = codes "vsim: " ++ text ++ codes "\n"
+
+-- the line was written whole, or a front of it where faults rose
+abbrev pub Tells : List ℕ → Option Written → Option Written → ℕ → ℕ → Type 0
+Tells text told told' faults faults' = (told' ≡ option_map (appended Errors (error_line text)) told) ⊎ (Said Errors (error_line text) told told' × Rose faults faults')
+
+-- a refusal whose line is whole, or a world fault
+abbrev pub Refuses : Status → List ℕ → Option Written → Option Written → ℕ → ℕ → Type 0
+Refuses s text told told' faults faults' =
+    ((s ≡ status.Refused) × (told' ≡ option_map (appended Errors (error_line text)) told)) ⊎ ((s ≡ status.WorldFault) × Said Errors (error_line text) told told' × Rose faults faults')
+
+-- ---- what each status says
+
+-- these bytes were appended to the streams, where the world tells it
+abbrev pub with_appended : Output → List ℕ → Written → Written
+with_appended o errors w = record { out = w.out ++ o.out; errors = w.errors ++ errors; calls = w.calls ++ o.calls; vcd = w.vcd ++ o.vcd }
+
+pub record Appends (told told' : Option Written) (o : Output) (errors : List ℕ) : Type 0 where
+  pub same : told' ≡ option_map (with_appended o errors) told
+
+-- each text is a front of the other's
+pub record AreFronts (part whole : Output) : Type 0 where
+  pub out : IsPrefix part.out whole.out
+  pub calls : IsPrefix part.calls whole.calls
+  pub vcd : IsPrefix part.vcd whole.vcd
+
+-- why there may be a world fault: faults rose, or a file that is not there was read
+abbrev pub FaultCause : Answer → ℕ → ℕ → ℕ → ℕ → Type 0
+FaultCause a faults faults' absent absent' = Rose faults faults' ⊎ ((name : List ℕ) × (a ≡ Unread name) × Rose absent absent')
+
+-- the line that a world fault tells: that of a refusal, that of a file of the words, where nothing else was written, or that of a stream
+pub data FaultLine (named : List (List ℕ)) (a : Answer) (part : Output) (text : List ℕ) : Type 0 where
+  OfRefusal : a ≡ Refused text → FaultLine named a part text
+  OfRead : (name : List ℕ) → Contains named name → part ≡ nothing → text ≡ codes "cannot read " ++ name → FaultLine named a part text
+  OfWrite : text ≡ codes "cannot write out" → FaultLine named a part text
+
+-- a file that is not there is told whole, where faults did not rise
+abbrev pub TellsUnread : Answer → List ℕ → ℕ → ℕ → Type 0
+TellsUnread a errors faults faults' = (name : List ℕ) → a ≡ Unread name → (errors ≡ error_line (codes "cannot read " ++ name)) ⊎ Rose faults faults'
+
+-- all texts are whole, and nothing stands on standard error
+pub record EndsDone (a : Answer) (told told' : Option Written) : Type 0 where
+  pub output : Output
+  pub answer : a ≡ Texts output
+  pub written : Appends told told' output []
+
+-- the line of the refusal is whole, and nothing else was written
+pub record EndsRefused (a : Answer) (told told' : Option Written) : Type 0 where
+  pub line : List ℕ
+  pub answer : a ≡ Refused line
+  pub written : Appends told told' nothing (error_line line)
+
+-- faults rose or a file is not there; each text and the line on standard error is a front of what it would be
+pub record EndsFaulty (named : List (List ℕ)) (a : Answer) (told told' : Option Written) (faults faults' absent absent' : ℕ) : Type 0 where
+  pub cause : FaultCause a faults faults' absent absent'
+  pub part : Output
+  pub front : AreFronts part (output_of a)
+  pub text : List ℕ
+  pub line : FaultLine named a part text
+  pub errors : List ℕ
+  pub said : IsPrefix errors (error_line text)
+  pub unread : TellsUnread a errors faults faults'
+  pub written : Appends told told' part errors
+
+-- each text is a front of what it would be; the line is whole, or a front of it where faults rose
+pub record EndsWanting (a : Answer) (told told' : Option Written) (faults faults' : ℕ) : Type 0 where
+  pub part : Output
+  pub front : AreFronts part (output_of a)
+  pub errors : List ℕ
+  pub said : (errors ≡ error_line (codes "out of memory")) ⊎ (IsPrefix errors (error_line (codes "out of memory")) × Rose faults faults')
+  pub written : Appends told told' part errors
+
+abbrev pub Ends : Status → List (List ℕ) → Answer → Option Written → Option Written → ℕ → ℕ → ℕ → ℕ → Type 0
+Ends status.Done named a told told' faults faults' absent absent' = EndsDone a told told'
+Ends status.Refused named a told told' faults faults' absent absent' = EndsRefused a told told'
+Ends status.WorldFault named a told told' faults faults' absent absent' = EndsFaulty named a told told' faults faults' absent absent'
+Ends status.NoMemory named a told told' faults faults' absent absent' = EndsWanting a told told' faults faults'
+
+-- some answer that is allowed, with what the status says of it
+pub record Table (Allowed : Answer → Type 0) (s : Status) (named : List (List ℕ)) (told told' : Option Written) (faults faults' absent absent' : ℕ) : Type 0 where
+  pub answer : Answer
+  pub allowed : Allowed answer
+  pub ends : Ends s named answer told told' faults faults' absent absent'

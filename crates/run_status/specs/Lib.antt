@@ -1,0 +1,4 @@
+pub mod Written
+pub mod WrittenLaws
+pub mod Answer
+pub mod AnswerLaws

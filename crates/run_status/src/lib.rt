@@ -1,0 +1,22 @@
+//! How a command ends: its status, its one line on standard error, and what both say of the streams.
+//!
+//! A command has one of four statuses ([`Status`]). Where it does not end well it tries one line on standard error,
+//! `vsim: ` and a text, by the calls of this crate; they write in pieces and take no memory.
+//!
+//! `specs/Answer.antt` holds the table of statuses. An answer is a refusal by a line, a named file that is not there,
+//! or the texts of a run; `Table` says that some allowed answer is what the status tells of the streams: `Done` and
+//! all texts whole, `Refused` and its line whole, and so on. Which answers are allowed for which words and files is
+//! no matter of this crate. The laws beside it lead from what a stage of a command wrote to the table, and from an
+//! earlier stage to a later one.
+//!
+//! ```text
+//! refuse(world, b"d.sv", b": not built yet")    // vsim: d.sv: not built yet    Refused, or WorldFault
+//! cannot_read(world, b"none.sv")                // vsim: cannot read none.sv    WorldFault
+//! ```
+#![tactic(auto)]
+
+mod line;
+mod status;
+
+pub use line::{cannot_read, cannot_write_out, out_of_memory, refuse};
+pub use status::Status;

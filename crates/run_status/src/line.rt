@@ -1,0 +1,93 @@
+// The one line on standard error.
+ghost use Rattle.std.specs.Prelude.{◌≡◌, ◌≤◌, ◌++◌, [], codes, OnOk, OnErr};
+ghost use Rattle.std.specs.Option.{option_map};
+ghost use Rattle.vs_world.specs.Outside.{appended, IsOpen, Rose};
+ghost use Rattle.vs_world.specs.declared.world.Stream.TheVariants.{Errors as ErrorStream};
+ghost use Rattle.run_status.specs.Written.{Said, OnlyWrites, joined};
+ghost use Rattle.run_status.specs.Answer.{error_line, Tells, Refuses};
+
+use crate::status::Status;
+use vs_world::{Stream, World, write_all};
+
+const START: &[u8] = b"vsim: ";
+
+const END: &[u8] = b"\n";
+
+// Writes pieces one after another.
+fn write_pieces<W: World>(world: &mut W, stream: Stream, pieces: &[&[u8]]) -> Result<(), ()>
+    requires { IsOpen (W.made world.old) stream }
+    ensures ok { OnOk result (W.written world.new ≡ option_map (appended stream (joined pieces.now)) (W.written world.old)) }
+    ensures err { OnErr result (Said stream (joined pieces.now) (W.written world.old) (W.written world.new)) }
+    ensures cause { OnErr result (Rose (W.faults world.old) (W.faults world.new)) }
+    ensures rest { OnlyWrites (W.faults world.old) (W.faults world.new) (W.absent world.old) (W.absent world.new) (W.files world.old) (W.files world.new) (W.made world.old) (W.made world.new) }
+{
+    for piece in pieces {
+        match write_all(world, stream, piece) {
+            Ok(()) => {}
+            Err(_) => return Err(()),
+        }
+    }
+    Ok(())
+}
+
+// Writes one line on standard error, or as much of it as the world takes; says whether it is whole.
+fn tell<W: World>(world: &mut W, start: &[u8], end: &[u8]) -> Result<(), ()>
+    ensures ok { OnOk result (W.written world.new ≡ option_map (appended ErrorStream (error_line (start.now ++ end.now))) (W.written world.old)) }
+    ensures err { OnErr result (Said ErrorStream (error_line (start.now ++ end.now)) (W.written world.old) (W.written world.new)) }
+    ensures cause { OnErr result (Rose (W.faults world.old) (W.faults world.new)) }
+    ensures rest { OnlyWrites (W.faults world.old) (W.faults world.new) (W.absent world.old) (W.absent world.new) (W.files world.old) (W.files world.new) (W.made world.old) (W.made world.new) }
+{
+    match write_pieces(world, Stream::Errors, &[START, start, end, END]) {
+        Ok(()) => Ok(()),
+        Err(()) => Err(()),
+    }
+}
+
+/// Refuses a command by the line `vsim: `, these two texts and a line feed on standard error.
+///
+/// Gives `Refused` where the line is whole, and `WorldFault` where the write failed.
+pub fn refuse<W: World>(world: &mut W, start: &[u8], end: &[u8]) -> Status
+    ensures told { Refuses result (start.now ++ end.now) (W.written world.old) (W.written world.new) (W.faults world.old) (W.faults world.new) }
+    ensures rest { OnlyWrites (W.faults world.old) (W.faults world.new) (W.absent world.old) (W.absent world.new) (W.files world.old) (W.files world.new) (W.made world.old) (W.made world.new) }
+{
+    match tell(world, start, end) {
+        Ok(()) => Status::Refused,
+        Err(()) => Status::WorldFault,
+    }
+}
+
+/// Tries the line `cannot read NAME` after a failing read, and gives `WorldFault`.
+pub fn cannot_read<W: World>(world: &mut W, name: &[u8]) -> Status
+    ensures status { result ≡ Status.WorldFault }
+    ensures told { Tells (codes "cannot read " ++ name.now) (W.written world.old) (W.written world.new) (W.faults world.old) (W.faults world.new) }
+    ensures rest { OnlyWrites (W.faults world.old) (W.faults world.new) (W.absent world.old) (W.absent world.new) (W.files world.old) (W.files world.new) (W.made world.old) (W.made world.new) }
+{
+    match tell(world, b"cannot read ", name) {
+        Ok(()) => Status::WorldFault,
+        Err(()) => Status::WorldFault,
+    }
+}
+
+/// Tries the line `cannot write out` after a failing write to standard output, and gives `WorldFault`.
+pub fn cannot_write_out<W: World>(world: &mut W) -> Status
+    ensures status { result ≡ Status.WorldFault }
+    ensures told { Tells (codes "cannot write out") (W.written world.old) (W.written world.new) (W.faults world.old) (W.faults world.new) }
+    ensures rest { OnlyWrites (W.faults world.old) (W.faults world.new) (W.absent world.old) (W.absent world.new) (W.files world.old) (W.files world.new) (W.made world.old) (W.made world.new) }
+{
+    match tell(world, b"cannot write out", b"") {
+        Ok(()) => Status::WorldFault,
+        Err(()) => Status::WorldFault,
+    }
+}
+
+/// Tries the line `out of memory`, and gives `NoMemory` whether it was written or not.
+pub fn out_of_memory<W: World>(world: &mut W) -> Status
+    ensures status { result ≡ Status.NoMemory }
+    ensures told { Tells (codes "out of memory") (W.written world.old) (W.written world.new) (W.faults world.old) (W.faults world.new) }
+    ensures rest { OnlyWrites (W.faults world.old) (W.faults world.new) (W.absent world.old) (W.absent world.new) (W.files world.old) (W.files world.new) (W.made world.old) (W.made world.new) }
+{
+    match tell(world, b"out of memory", b"") {
+        Ok(()) => Status::NoMemory,
+        Err(()) => Status::NoMemory,
+    }
+}
