@@ -1,0 +1,4 @@
+pub mod FlatStimulus
+pub mod Places
+pub mod StimulusLaws
+pub mod Found

@@ -1,0 +1,34 @@
+// Hexadecimal numbers.
+ghost use Rattle.std.specs.Prelude.{◌≡◌, ◌<◌, true, SomeIff, IfSome};
+ghost use Rattle.first_form.specs.Stimulus.{is_hex_digit, hex_digit_value, is_hex, hex_value};
+
+fn digit(c: u8) -> Option<u8>
+    ensures digit { SomeIff result (is_hex_digit c ≡ true) (hex_digit_value c) }
+    ensures small { IfSome result (λ d. d < 16) }
+{
+    match c {
+        b'0'..=b'9' => Some(c - 48),
+        b'A'..=b'F' => Some(c - 55),
+        b'a'..=b'f' => Some(c - 87),
+        _ => None,
+    }
+}
+
+/// The number that 1 to 32 hexadecimal digits of either case write; `None` at any other text.
+pub fn read_hex(text: &[u8]) -> Option<u128>
+    ensures { SomeIff result (is_hex text.now ≡ true) (hex_value text.now) }
+{
+    if text.len() == 0 || text.len() > 32 {
+        return None;
+    }
+    let mut value = 0u128;
+    let mut rest = text;
+    'digits: while let [c, more @ ..] = rest {
+        let Some(d) = digit(*c) else {
+            return None;
+        };
+        value = value * 16 + u128::from(d);
+        rest = more;
+    }
+    Some(value)
+}
