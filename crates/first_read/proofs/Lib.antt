@@ -1,0 +1,14 @@
+pub mod TokenLaws
+pub mod ManyLaws
+pub mod ExprLaws
+pub mod DesignLaws
+pub mod Named
+pub mod Numbers
+pub mod Turns
+pub mod Follows
+pub mod ExprFollows
+pub mod ExprSteps
+pub mod Steps
+pub mod Apart
+pub mod DesignFollows
+pub mod FormLaws
