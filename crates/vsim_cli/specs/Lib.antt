@@ -1,0 +1,5 @@
+pub mod Answer
+pub mod AnswerLaws
+pub mod Words
+pub mod Input
+pub mod Stages
