@@ -1,0 +1,4 @@
+mod Examples
+pub mod Reversing
+pub mod Rotating
+pub mod Table

@@ -1,0 +1,60 @@
+-- The table `imports`, by number.
+use Rattle.std.proofs.Common.{◌≡◌, ◌≢◌, ℕ, zero, suc, ◌+◌, ◌-◌, ◌%◌, ◌<◌, ◌≤◌, Bool, true, false, List, map, refl, sym, ap, ◌∙◌, subst, arith, inl, inr, Bor}
+use Rattle.std.specs.Prelude.{IsTrue, position}
+use Rattle.std.specs.Str.{bytes_eq}
+use Rattle.std.proofs.lemmas.Bool.{cases_lt}
+use Rattle.std.proofs.lemmas.List.{get_or_past}
+use Rattle.dpi_lib.specs.Library.{Import, alone, stateful, is_alone, answered, left, imports, import_at, library_id}
+use Rattle.dpi_lib.specs.declared.host.TheConstants.{NAMES}
+
+-- ---- the import of an equal number
+
+pub answered_at : (id k : ℕ) → id ≡ k → (s : List ℕ) (a b : ℕ) → answered (import_at id) s a b ≡ answered (import_at k) s a b
+answered_at id k is s a b = ap (λ (n : ℕ). answered (import_at n) s a b) is
+
+pub left_at : (id k : ℕ) → id ≡ k → (s : List ℕ) (a b : ℕ) → left (import_at id) s a b ≡ left (import_at k) s a b
+left_at id k is s a b = ap (λ (n : ℕ). left (import_at n) s a b) is
+
+-- ---- by ranges
+
+pub past_the_end : (id : ℕ) → 11 < id → import_at id ≡ alone (λ a b. 0)
+unfolding import_at imports
+past_the_end id h = get_or_past (map (λ row. row.1) imports) id (alone (λ a b. 0)) (omega arith)
+
+pub low_alone : (id : ℕ) → id < 7 → is_alone (import_at id) ≡ true
+unfolding import_at imports
+low_alone zero h = refl
+low_alone (suc zero) h = refl
+low_alone (suc (suc zero)) h = refl
+low_alone (suc (suc (suc zero))) h = refl
+low_alone (suc (suc (suc (suc zero)))) h = refl
+low_alone (suc (suc (suc (suc (suc zero))))) h = refl
+low_alone (suc (suc (suc (suc (suc (suc zero)))))) h = refl
+low_alone (suc (suc (suc (suc (suc (suc (suc id))))))) h = absurd (omega arith)
+
+seventh_on : (k : ℕ) → k < 5 → is_alone (import_at (k + 7)) ≡ false
+unfolding import_at imports
+seventh_on zero h = refl
+seventh_on (suc zero) h = refl
+seventh_on (suc (suc zero)) h = refl
+seventh_on (suc (suc (suc zero))) h = refl
+seventh_on (suc (suc (suc (suc zero)))) h = refl
+seventh_on (suc (suc (suc (suc (suc k))))) h = absurd (omega arith)
+
+pub mid_stateful : (id : ℕ) → 7 ≤ id → id ≤ 11 → is_alone (import_at id) ≡ false
+mid_stateful id low high = ap (λ (n : ℕ). is_alone (import_at n)) (omega arith) ∙ seventh_on (id - 7) (omega arith)
+
+pub high_alone : (id : ℕ) → 11 < id → is_alone (import_at id) ≡ true
+high_alone id h = ap is_alone (past_the_end id h)
+
+pub others_alone : (id : ℕ) → id ≢ 7 → id ≢ 8 → id ≢ 9 → id ≢ 10 → id ≢ 11 → is_alone (import_at id) ≡ true
+others_alone id a b d e f =
+    elim (cases_lt id 7) [ inl low ↦ low_alone id low | inr high ↦ high_alone id (omega arith) ]
+
+-- an import that is by its arguments alone, and none of the seven, answers 0
+pub rest_answers : (id : ℕ) → 7 ≤ id → IsTrue (is_alone (import_at id)) → (s : List ℕ) (a b : ℕ) → answered (import_at id) s a b ≡ 0
+rest_answers id low told s a b =
+    elim (cases_lt 11 id) [
+      | inl high ↦ ap (λ (i : Import). answered i s a b) (past_the_end id high)
+      | inr mid ↦ let lie : true ≡ false = sym told ∙ mid_stateful id low mid in cc
+    ]
