@@ -1,5 +1,5 @@
 -- The table, worked out.
-use Rattle.std.proofs.Common.{◌≡◌, ℕ, true, false, Some, None, refl, List, [], ◌∷◌}
+use Rattle.std.proofs.Common.{◌≡◌, false, Some, None, refl, [], ◌∷◌}
 use Rattle.std.specs.Prelude.{codes, replicate}
 use Rattle.std.specs.Int.RustNames.{count_ones}
 use lib.Count.{ones_in}

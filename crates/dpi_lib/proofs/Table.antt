@@ -1,11 +1,9 @@
 -- The table `imports`, by number.
-use Rattle.std.proofs.Common.{◌≡◌, ◌≢◌, ℕ, zero, suc, ◌+◌, ◌-◌, ◌%◌, ◌<◌, ◌≤◌, Bool, true, false, List, map, refl, sym, ap, ◌∙◌, subst, arith, inl, inr, Bor}
-use Rattle.std.specs.Prelude.{IsTrue, position}
-use Rattle.std.specs.Str.{bytes_eq}
-use Rattle.std.proofs.lemmas.Bool.{cases_lt}
+use Rattle.std.proofs.Common.{◌≡◌, ◌≢◌, ℕ, zero, suc, ◌+◌, ◌-◌, ◌<◌, ◌≤◌, true, false, List, map, refl, sym, ap, ◌∙◌, arith, inl, inr}
+use Rattle.std.specs.Prelude.{IsTrue, nat_lt}
+use Rattle.std.proofs.lemmas.Bool.{cases_lt, lt-ltb, le-ltb}
 use Rattle.std.proofs.lemmas.List.{get_or_past}
-use Rattle.dpi_lib.specs.Library.{Import, alone, stateful, is_alone, answered, left, imports, import_at, library_id}
-use Rattle.dpi_lib.specs.declared.host.TheConstants.{NAMES}
+use Rattle.dpi_lib.specs.Library.{Import, alone, is_alone, answered, left, imports, import_at}
 
 -- ---- the import of an equal number
 
@@ -17,11 +15,11 @@ left_at id k is s a b = ap (λ (n : ℕ). left (import_at n) s a b) is
 
 -- ---- by ranges
 
-pub past_the_end : (id : ℕ) → 11 < id → import_at id ≡ alone (λ a b. 0)
+past_the_end : (id : ℕ) → 11 < id → import_at id ≡ alone (λ a b. 0)
 unfolding import_at imports
 past_the_end id h = get_or_past (map (λ row. row.1) imports) id (alone (λ a b. 0)) (omega arith)
 
-pub low_alone : (id : ℕ) → id < 7 → is_alone (import_at id) ≡ true
+low_alone : (id : ℕ) → id < 7 → is_alone (import_at id) ≡ true
 unfolding import_at imports
 low_alone zero h = refl
 low_alone (suc zero) h = refl
@@ -41,11 +39,22 @@ seventh_on (suc (suc (suc zero))) h = refl
 seventh_on (suc (suc (suc (suc zero)))) h = refl
 seventh_on (suc (suc (suc (suc (suc k))))) h = absurd (omega arith)
 
-pub mid_stateful : (id : ℕ) → 7 ≤ id → id ≤ 11 → is_alone (import_at id) ≡ false
+mid_stateful : (id : ℕ) → 7 ≤ id → id ≤ 11 → is_alone (import_at id) ≡ false
 mid_stateful id low high = ap (λ (n : ℕ). is_alone (import_at n)) (omega arith) ∙ seventh_on (id - 7) (omega arith)
 
-pub high_alone : (id : ℕ) → 11 < id → is_alone (import_at id) ≡ true
+high_alone : (id : ℕ) → 11 < id → is_alone (import_at id) ≡ true
 high_alone id h = ap is_alone (past_the_end id h)
+
+-- the same as tests
+pub is_alone-low : (id : ℕ) → id < 7 → nat_lt id 7 ≡ is_alone (import_at id)
+is_alone-low id low = lt-ltb id 7 low ∙ sym (low_alone id low)
+
+pub is_alone-from_seven : (id : ℕ) → 7 ≤ id → nat_lt 11 id ≡ is_alone (import_at id)
+is_alone-from_seven id low =
+    elim (cases_lt 11 id) [
+      | inl high ↦ lt-ltb 11 id high ∙ sym (high_alone id high)
+      | inr mid ↦ le-ltb 11 id mid ∙ sym (mid_stateful id low mid)
+    ]
 
 pub others_alone : (id : ℕ) → id ≢ 7 → id ≢ 8 → id ≢ 9 → id ≢ 10 → id ≢ 11 → is_alone (import_at id) ≡ true
 others_alone id a b d e f =

@@ -1,12 +1,8 @@
-use Rattle.std.proofs.Common.{not, sym, ap, ◌∙◌, arith}
-use Rattle.dpi_lib.proofs.Table.{low_alone, mid_stateful, high_alone}
+use Rattle.dpi_lib.proofs.Table.{is_alone-low, is_alone-from_seven}
 use Rattle.dpi_lib.proofs.host.LibHostHost.by_args.Goals as goal
-use Rattle.dpi_lib.proofs.host.LibHostHost.by_args.Goals.{in-7-to-11, in_default, in_default-2}
 
-pub returns : goal.returns
-returns c =
-    elim c.if-matches.branch [
-      | in-7-to-11 w ↦ ap not w.matches-is ∙ sym (mid_stateful c.args.id (omega arith) (omega arith))
-      | in_default w ↦ ap not w.matches-is ∙ sym (low_alone c.args.id (omega arith))
-      | in_default-2 w ↦ ap not w.matches-is ∙ sym (high_alone c.args.id (omega arith))
-    ]
+pub returns-then-id-lt-NEXT : goal.returns-then-id-lt-NEXT
+returns-then-id-lt-NEXT c = is_alone-low c.args.id c.if-id-lt-NEXT.true
+
+pub returns-else-id-lt-NEXT : goal.returns-else-id-lt-NEXT
+returns-else-id-lt-NEXT c = is_alone-from_seven c.args.id c.if-id-lt-NEXT.false
