@@ -9,6 +9,7 @@ ghost use Rattle.first_form.specs.Stimulus.{Act as TreeAct};
 ghost use Rattle.first_form.specs.Run.{out_text};
 ghost use Rattle.first_form.specs.Flat.{PortsNamed, flat_act};
 ghost use Rattle.vsim_cli.specs.Answer.{Named, settings_of, files_named, IsAnswer, IsToldAnswer, IsNamedAnswer, FilesAnswer, IsDesignIn, acts_in, run_answer, design_answer, contents};
+ghost use Rattle.vsim_cli.specs.Input.{Unreads};
 ghost use Rattle.vsim_cli.specs.Stages.{IsShape, IsSettled};
 
 use crate::input::{InputFault, input};
@@ -142,8 +143,6 @@ fn unread<W: World>(world: &mut W, name: &[u8], fault: InputFault) -> Status
         InputFault::NoMemory => out_of_memory(world),
     }
 }
-
-ghost use Rattle.vsim_cli.specs.Input.{Unreads};
 
 // The names are known: reads the design, and then the stimulus.
 fn run_named<W: World>(alloc: Global, file: &[u8], stim: &[u8], world: &mut W) -> Status
