@@ -1,7 +1,7 @@
 -- The definitions, worked out.
 use Rattle.std.proofs.Common.{◌≡◌, true, false, refl, [], ◌∷◌}
 use Rattle.dpi_host.specs.declared.mode.Mode.TheVariants as mode
-use Rattle.dpi_host.specs.Calls.{IsPadded, padded}
+use Rattle.dpi_host.specs.Calls.{padded}
 use Rattle.dpi_host.specs.HostMachine.{reply_of}
 use Rattle.dpi_host.specs.Modes.{is_deemed}
 

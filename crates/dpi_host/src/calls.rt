@@ -1,4 +1,4 @@
-ghost use Rattle.std.specs.Prelude.{◌≡◌, ◌≤◌, ◌<◌, ◌-◌, [], ◌∷◌, ◌++◌, ℕ, List, length, take, drop, slice_index, vec_capacity, IfOk};
+ghost use Rattle.std.specs.Prelude.{◌≡◌, ◌≤◌, ◌<◌, [], ◌∷◌, ◌++◌, length, take, slice_index, vec_capacity, IfOk};
 ghost use Rattle.dpi_host.specs.Calls.{Call, Buffer, IsPadded, padded, length-take_padded, padded-take};
 
 use crate::NoMemory;

@@ -3,15 +3,15 @@ use Rattle.std.proofs.Common.{◌≡◌, ◌≢◌, ℕ, zero, suc, ◌+◌, ◌
 use Rattle.std.specs.Prelude.{IsTrue, nat_lt}
 use Rattle.std.proofs.lemmas.Bool.{cases_lt, lt-ltb, le-ltb}
 use Rattle.std.proofs.lemmas.List.{get_or_past}
-use Rattle.dpi_lib.specs.Library.{Import, alone, is_alone, answered, left, imports, import_at}
+use Rattle.dpi_lib.specs.Library.{Import, alone, is_alone, answered, state_after, imports, import_at}
 
 -- ---- the import of an equal number
 
 pub answered_at : (id k : ℕ) → id ≡ k → (s : List ℕ) (a b : ℕ) → answered (import_at id) s a b ≡ answered (import_at k) s a b
 answered_at id k is s a b = ap (λ (n : ℕ). answered (import_at n) s a b) is
 
-pub left_at : (id k : ℕ) → id ≡ k → (s : List ℕ) (a b : ℕ) → left (import_at id) s a b ≡ left (import_at k) s a b
-left_at id k is s a b = ap (λ (n : ℕ). left (import_at n) s a b) is
+pub state_after_at : (id k : ℕ) → id ≡ k → (s : List ℕ) (a b : ℕ) → state_after (import_at id) s a b ≡ state_after (import_at k) s a b
+state_after_at id k is s a b = ap (λ (n : ℕ). state_after (import_at n) s a b) is
 
 -- ---- by ranges
 

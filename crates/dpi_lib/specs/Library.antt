@@ -55,17 +55,20 @@ pub data Import : Type 0 where
   alone : (ℕ → ℕ → ℕ) → Import
   stateful : (List ℕ → ℕ → ℕ → ℕ) → (List ℕ → ℕ → ℕ → List ℕ) → Import
 
+-- whether it answers by its arguments alone
 abbrev pub is_alone : Import → Bool
 is_alone (alone f) = true
 is_alone (stateful f g) = false
 
+-- its answer in a state to two arguments
 abbrev pub answered : Import → List ℕ → ℕ → ℕ → ℕ
 answered (alone f) s a b = f a b
 answered (stateful f g) s a b = f s a b
 
-abbrev pub left : Import → List ℕ → ℕ → ℕ → List ℕ
-left (alone f) s a b = s
-left (stateful f g) s a b = g s a b
+-- the state that it leaves
+abbrev pub state_after : Import → List ℕ → ℕ → ℕ → List ℕ
+state_after (alone f) s a b = s
+state_after (stateful f g) s a b = g s a b
 
 -- the imports with their names, in the order of their numbers
 unfoldable pub imports : List (List ℕ × Import)
@@ -90,6 +93,7 @@ import_at id = slice_index_or (map (λ row. row.1) imports) id (alone (λ a b. 0
 
 -- ---- the library as a host, whose fixed part is empty
 
+-- the number of a name: its place in the table
 unfoldable pub library_id : List ℕ → Option ℕ
 library_id name = position (λ known. bytes_eq known name) (map (λ row. row.0) imports)
 
@@ -101,4 +105,4 @@ abbrev pub library_answer : Answer
 library_answer fixed s id args = answered (import_at id) s (slice_index args 0) (slice_index args 1)
 
 abbrev pub library_after : After
-library_after fixed s id args = left (import_at id) s (slice_index args 0) (slice_index args 1)
+library_after fixed s id args = state_after (import_at id) s (slice_index args 0) (slice_index args 1)

@@ -1,5 +1,5 @@
 //! The seven imports that answer by their arguments alone.
-ghost use Rattle.std.specs.Prelude.{◌≡◌, [], ◌+◌, ◌*◌, ◌/◌, ◌%◌, ◌^◌, ℕ, List, IsTrue, count_ones, slice_index};
+ghost use Rattle.std.specs.Prelude.{◌≡◌, ◌%◌, ◌^◌, [], ℕ, List, IsTrue, count_ones, slice_index};
 ghost use Rattle.dpi_lib.specs.Library.{reversed, mixed, rotated, answered, import_at, library_by_args, library_answer};
 
 use crate::number;

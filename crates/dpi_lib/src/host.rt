@@ -1,5 +1,5 @@
 //! The library as a host.
-ghost use Rattle.std.specs.Prelude.{◌≡◌, ◌≤◌, ◌+◌, ◌%◌, ◌^◌, [], ◌∷◌, length, replicate, position, slice_index};
+ghost use Rattle.std.specs.Prelude.{◌≡◌, ◌+◌, ◌%◌, ◌^◌, [], replicate, position};
 ghost use Rattle.std.specs.Str.{bytes_eq};
 ghost use Rattle.dpi_lib.specs.Library.{next_of, sum_of, cell_of, with_next, with_sum, with_cell, library_id, library_by_args, library_answer, library_after};
 ghost use Rattle.dpi_lib.specs.LibraryLaws.{library_lawful};
