@@ -1,2 +1,4 @@
 mod NumberExamples
+mod OperatorExamples
 pub mod NumberLemmas
+pub mod OperatorLemmas

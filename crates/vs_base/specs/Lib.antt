@@ -1,2 +1,4 @@
 pub mod Number
 pub mod NumberLaws
+pub mod Operators
+pub mod OperatorLaws

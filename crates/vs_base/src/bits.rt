@@ -2,6 +2,13 @@ ghost use Rattle.std.specs.Prelude.{◌≡◌, ◌≤◌, ◌^◌, ◌<◌, ◌+
 ghost use Rattle.std.specs.Fmt.{digit_glyph};
 ghost use Rattle.vs_base.specs.Number.{Number, IsNumber, kept, extended, sliced, overwritten, placed, added, conjoined, signed_reading, hex_digit_of, bin_digit_of};
 
+mod arith;
+mod bitwise;
+mod compare;
+mod join;
+mod reduce;
+mod shift;
+
 use std::marker::Model;
 
 /// A value of the hardware language: a width from 1 to 128 bits, and a number below 2^width.
