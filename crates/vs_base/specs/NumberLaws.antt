@@ -81,7 +81,7 @@ residue_from_top m q t some below =
 
 -- other widths
 
-residue-below : (z : ℤ) (m : ℕ) → 0 < m → residue z m < m
+pub residue-below : (z : ℤ) (m : ℕ) → 0 < m → residue z m < m
 residue-below (pos a) m some = mod_below a m some
 residue-below (negsuc a) m some = omega arith
 

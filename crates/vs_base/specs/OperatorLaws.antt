@@ -1,18 +1,15 @@
 -- Laws of the operators, for the proofs of this crate and of those above it.
-use Rattle.std.proofs.Common.{◌≡◌, ℕ, zero, suc, ◌+◌, ◌*◌, ◌^◌, ◌<◌, ◌≤◌, Bool, true, false, refl, ap, ◌∙◌, arith, ℤ, pos, negsuc}
-use Rattle.std.proofs.lemmas.Nat.{pow_pos, pow-add, mod_below}
+use Rattle.std.proofs.Common.{◌≡◌, ℕ, zero, suc, ◌+◌, ◌*◌, ◌^◌, ◌<◌, ◌≤◌, Bool, true, false, refl, ap, ◌∙◌, arith, ℤ}
+use Rattle.std.proofs.lemmas.Nat.{pow_pos, pow-add}
 use Rattle.std.proofs.Math.Nat.{mul-le-mul_right}
-use Rattle.vs_base.specs.Number.{Number, IsNumber, residue}
+use Rattle.vs_base.specs.Number.{Number, IsNumber}
+use Rattle.vs_base.specs.NumberLaws.{residue-below}
 use Rattle.vs_base.specs.Operators.{wrapped, inverted, truth, joined, repeated, IsCeilingLog}
 
 -- what each operator gives is a number that a program can hold
 
-residue_below : (z : ℤ) (m : ℕ) → 0 < m → residue z m < m
-residue_below (pos a) m some = mod_below a m some
-residue_below (negsuc a) m some = omega arith
-
 pub wrapped-IsNumber : (w : ℕ) (z : ℤ) → 1 ≤ w → w ≤ 128 → IsNumber (wrapped w z)
-wrapped-IsNumber w z some most = record { some = some; most = most; fits = residue_below z (2 ^ w) (pow_pos w) }
+wrapped-IsNumber w z some most = record { some = some; most = most; fits = residue-below z (2 ^ w) (pow_pos w) }
 
 pub inverted-IsNumber : (a : Number) → IsNumber a → IsNumber (inverted a)
 inverted-IsNumber a is =
