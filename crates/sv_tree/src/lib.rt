@@ -22,7 +22,20 @@
 #![tactic(auto)]
 
 mod names;
+mod print;
+mod symbol;
 mod token;
+mod tree;
 
 pub use names::{NameId, Names, NoMemory};
+pub use symbol::Symbol;
 pub use token::{Token, TokenKind};
+pub use tree::expr::{Args, Choice, Expr, Select, Step};
+pub use tree::item::{
+    Argument, Assignment, Connected, Connection, Connections, Declaration, Dimension, Event,
+    GenBlock, Import, Initial, Item, ItemBranch, Linkage, Overrides,
+};
+pub use tree::list::{CommaList, Joined};
+pub use tree::source::{Module, Parameter, ParameterList, Port, PortList, SourceTree, Unit};
+pub use tree::stmt::{Arm, Branch, LoopHead, LoopStep, Lvalue, LvalueStep, Stmt, Test};
+pub use tree::words::{DataType, Label, Range, Setting, WordType};

@@ -1,0 +1,3 @@
+pub mod expr;
+pub mod part;
+pub mod printer;
