@@ -6,3 +6,8 @@ pub mod TreeRead
 pub mod TreeExpr
 pub mod TreeExprLaws
 pub mod Printed
+pub mod Spelling
+pub mod TreeWords
+pub mod TreeStmt
+pub mod TreeItem
+pub mod Tree

@@ -124,6 +124,9 @@ step_read = folds.fold-Step Read ExprRead Read Read StepRead read_args read_expr
 abbrev pub expr : Expr → Read
 expr e = (expr_read e).text
 
+abbrev pub selects : List Select → Read
+selects chosen = all_of (map select_read chosen)
+
 -- further operands of a list, each after a comma
 abbrev pub steps : List Step → Read
 steps more = listed (map step_read more)

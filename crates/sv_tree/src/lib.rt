@@ -23,7 +23,7 @@
 
 mod names;
 mod print;
-mod symbol;
+pub mod symbol;
 mod token;
 mod tree;
 
@@ -36,6 +36,8 @@ pub use tree::item::{
     GenBlock, Import, Initial, Item, ItemBranch, Linkage, Overrides,
 };
 pub use tree::list::{CommaList, Joined};
-pub use tree::source::{Module, Parameter, ParameterList, Port, PortList, SourceTree, Unit};
+pub use tree::source::{
+    Description, Module, Parameter, ParameterList, Port, PortList, SourceTree,
+};
 pub use tree::stmt::{Arm, Branch, LoopHead, LoopStep, Lvalue, LvalueStep, Stmt, Test};
 pub use tree::words::{DataType, Label, Range, Setting, WordType};

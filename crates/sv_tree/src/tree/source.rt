@@ -4,15 +4,15 @@ use crate::tree::list::CommaList;
 use crate::tree::words::{DataType, Label, Setting};
 use sqlite_items::Items;
 
-/// `source = { import | module }`, all files of a design.
+/// `source = { import | module }`, all files of a design (IEEE 1800-2017 A.1.2).
 #[derive(Drop)]
 pub struct SourceTree {
-    pub units: Items<Unit>,
+    pub descriptions: Items<Description>,
 }
 
 /// `import | module`
 #[derive(Drop)]
-pub enum Unit {
+pub enum Description {
     Import(Import),
     Module(Module),
 }
