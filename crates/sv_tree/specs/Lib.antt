@@ -11,3 +11,5 @@ pub mod TreeWords
 pub mod TreeStmt
 pub mod TreeItem
 pub mod Tree
+pub mod TreeStmtLaws
+pub mod TreeItemLaws

@@ -25,7 +25,7 @@ use Rattle.sv_tree.specs.Symbol.{same, is_manner, is_parameter, is_always, is_ed
 use Rattle.sv_tree.specs.TreeRead.{Read, one_of, token, ◌then◌, deeper, maybe, list_by, commas}
 use Rattle.sv_tree.specs.TreeExpr.{expr, args_read}
 use Rattle.sv_tree.specs.TreeWords.{range, data_type, variable_type, result_type, argument_type, setting}
-use Rattle.sv_tree.specs.TreeStmt.{lvalue, loop_head, BodyRead, plain, ending_with, texts, block, branch, if_chain, if_else_chain, stmt_read}
+use Rattle.sv_tree.specs.TreeStmt.{lvalue_read, loop_head, BodyRead, plain, ending_with, texts, block, branch, if_chain, if_else_chain, stmt_read}
 
 -- ---- imports
 
@@ -55,7 +55,7 @@ abbrev pub declaration : Declaration → Read
 declaration x = token sym.Name x.name then maybe dimension x.dimension then maybe initial x.value
 
 abbrev pub assignment : Assignment → Read
-assignment x = lvalue x.target then token sym.Assign x.mark then expr x.value
+assignment x = lvalue_read x.target then token sym.Assign x.mark then expr x.value
 
 abbrev pub event : Event → Read
 event x = one_of is_edge x.edge then token sym.Name x.name

@@ -32,11 +32,11 @@ read_lvalue (Lvalue-F.Concat opens first more closes) =
 abbrev pub read_lvalue_step : LvalueStep-F Read Read → Read
 read_lvalue_step x = token sym.Comma x.comma then x.target
 
-unfoldable pub lvalue : Lvalue → Read
-lvalue = lvalues.fold-Lvalue Read Read read_lvalue read_lvalue_step
+unfoldable pub lvalue_read : Lvalue → Read
+lvalue_read = lvalues.fold-Lvalue Read Read read_lvalue read_lvalue_step
 
-unfoldable pub lvalue_step : LvalueStep → Read
-lvalue_step = lvalues.fold-LvalueStep Read Read read_lvalue read_lvalue_step
+unfoldable pub lvalue_step_read : LvalueStep → Read
+lvalue_step_read = lvalues.fold-LvalueStep Read Read read_lvalue read_lvalue_step
 
 -- ---- heads
 
@@ -117,7 +117,7 @@ read_stmt (Stmt-F.Case word opens subject closes arms end) =
       then all_of arms then token sym.Endcase end))
 read_stmt (Stmt-F.For head body) = ending_with body (deeper (stmt_loop head then body.text))
 read_stmt (Stmt-F.Assign target mark value semicolon) =
-    plain (deeper (lvalue target then one_of is_assign mark then expr value then token sym.Semicolon semicolon))
+    plain (deeper (lvalue_read target then one_of is_assign mark then expr value then token sym.Semicolon semicolon))
 read_stmt (Stmt-F.Call name opens args closes semicolon) =
     plain (deeper (
       token sym.Name name then deeper (token sym.ParenOpen opens then args_read args then token sym.ParenClose closes)
