@@ -1,3 +1,5 @@
 pub mod expr;
 pub mod part;
 pub mod printer;
+pub mod stmt;
+pub mod words;
