@@ -1,5 +1,5 @@
 -- How what was printed of the parts makes what was printed of the whole.
-use Rattle.std.proofs.Common.{◌≡◌, ◌<◌, ◌≤◌, ℕ, suc, List, [], ◌∷◌, ◌++◌, length, drop, get_or, Option, Some, refl, sym, ap, ◌∙◌, subst}
+use Rattle.std.proofs.Common.{◌≡◌, ◌<◌, ◌≤◌, ℕ, suc, List, [], ◌∷◌, ◌++◌, length, drop, get_or, Option, Some, refl, sym, ap, ◌∙◌, append-nil}
 use Rattle.std.proofs.Math.Seq.{drop-cons}
 use Rattle.std.proofs.lemmas.List.{drop_all}
 use Rattle.sv_tree.specs.TreeRead.{Tokens}
@@ -42,3 +42,13 @@ prints_all {print = print} {xs = xs} {i = i} nil done all = record {
     let w = all.whole now is in
     (w.0, w.1, λ r. ap (λ ts. now ++ ts) (sym (nil r)) ∙ ap (λ l. now ++ print l r) (sym (drop_all i xs done)) ∙ w.2 r)
 }
+
+-- what was printed from nothing on
+pub printed_whole : {old new : Option Tokens} {print : Tokens → Tokens} (now : Tokens) → old ≡ Some [] → new ≡ Some now → Appends old print new → now ≡ print []
+printed_whole {print = print} now start is h =
+    let w = h.whole now is in
+    let none : w.0 ≡ [] = some_same (sym w.1 ∙ start) in
+    sym (append-nil now) ∙ w.2 [] ∙ ap (λ l. l ++ print []) none
+  where
+    some_same : {a b : Tokens} → Some a ≡ Some b → a ≡ b
+    some_same e = cc

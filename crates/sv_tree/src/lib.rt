@@ -28,6 +28,7 @@ mod token;
 mod tree;
 
 pub use names::{NameId, Names, NoMemory};
+pub use print::source::tokens_of;
 pub use symbol::Symbol;
 pub use token::{Token, TokenKind};
 pub use tree::expr::{Args, Choice, Expr, Select, Step};
