@@ -13,3 +13,7 @@ pub mod TreeItem
 pub mod Tree
 pub mod TreeStmtLaws
 pub mod TreeItemLaws
+pub mod TreeExprInduction
+pub mod TreeLvalueInduction
+pub mod TreeStmtInduction
+pub mod TreeItemInduction

@@ -115,3 +115,10 @@ list_by is f l = f l.first then each (joined is f) l.more
 
 abbrev pub commas : {A : Type 0} → (A → Read) → CommaList A → Read
 commas = list_by (same sym.Comma)
+
+-- ---- facts of many parts
+
+-- it holds of each
+abbrev pub Each : {A : Type 0} → (A → Type 0) → List A → Type 0
+Each P [] = Unit {0}
+Each P (x ∷ xs) = P x × Each P xs
