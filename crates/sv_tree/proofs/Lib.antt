@@ -1,3 +1,4 @@
 pub mod Keys
 pub mod Examples
 pub mod Printed
+pub mod TreeExamples

@@ -13,9 +13,9 @@ infixr 20 ◌and◌
 pub ◌and◌ : {a b c : Option Tokens} {p q : Tokens → Tokens} → Appends a p b → Appends b q c → Appends a (λ r. p (q r)) c
 ◌and◌ {q = q} x y = record {
   whole = λ now is.
-    let last = y.whole now is in
-    let first = x.whole last.0 last.1 in
-    (first.0, first.1, λ r. last.2 r ∙ first.2 (q r))
+      let last = y.whole now is in
+      let first = x.whole last.0 last.1 in
+      (first.0, first.1, λ r. last.2 r ∙ first.2 (q r));
 }
 
 -- of a list so many parts were printed: with the others the list is whole
@@ -29,18 +29,21 @@ pub prints_next : {A : Type 0} {print : List A → Tokens → Tokens} {old mid n
     → i < length xs → x ≡ get_or xs i x → ((rest : List A) (r : Tokens) → print (x ∷ rest) r ≡ p (print rest r)) → Appends mid p new → Prints print old xs i mid → Prints print old xs (suc i) new
 prints_next {print = print} {xs = xs} {i = i} x within is cons part sofar = record {
   whole = λ now has.
-    let last = part.whole now has in
-    let first = sofar.whole last.0 last.1 in
-    let front : drop i xs ≡ x ∷ drop (suc i) xs = drop-cons xs i x within ∙ ap (λ y. y ∷ drop (suc i) xs) (sym is) in
-    (first.0, first.1, λ r.
-      last.2 (print (drop (suc i) xs) r) ∙ ap (λ ts. last.0 ++ ts) (sym (cons (drop (suc i) xs) r)) ∙ ap (λ l. last.0 ++ print l r) (sym front) ∙ first.2 r)
+      let last = part.whole now has in
+      let first = sofar.whole last.0 last.1 in
+      let front : drop i xs ≡ x ∷ drop (suc i) xs = drop-cons xs i x within ∙ ap (λ y. y ∷ drop (suc i) xs) (sym is) in (
+        first.0,
+        first.1,
+        λ r.
+            last.2 (print (drop (suc i) xs) r) ∙ ap (λ ts. last.0 ++ ts) (sym (cons (drop (suc i) xs) r)) ∙ ap (λ l. last.0 ++ print l r) (sym front) ∙ first.2 r,
+      );
 }
 
 pub prints_all : {A : Type 0} {print : List A → Tokens → Tokens} {old new : Option Tokens} {xs : List A} {i : ℕ} → ((r : Tokens) → print [] r ≡ r) → length xs ≤ i → Prints print old xs i new → Appends old (print xs) new
 prints_all {print = print} {xs = xs} {i = i} nil done all = record {
   whole = λ now is.
-    let w = all.whole now is in
-    (w.0, w.1, λ r. ap (λ ts. now ++ ts) (sym (nil r)) ∙ ap (λ l. now ++ print l r) (sym (drop_all i xs done)) ∙ w.2 r)
+      let w = all.whole now is in
+      (w.0, w.1, λ r. ap (λ ts. now ++ ts) (sym (nil r)) ∙ ap (λ l. now ++ print l r) (sym (drop_all i xs done)) ∙ w.2 r);
 }
 
 -- what was printed from nothing on

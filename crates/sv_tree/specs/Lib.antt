@@ -17,3 +17,5 @@ pub mod TreeExprInduction
 pub mod TreeLvalueInduction
 pub mod TreeStmtInduction
 pub mod TreeItemInduction
+pub mod SymbolLaws
+pub mod TreeLaws

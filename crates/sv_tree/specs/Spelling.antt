@@ -11,7 +11,7 @@ use Rattle.sv_tree.specs.declared.token.TokenKind.TheVariants as kind
 -- the symbol that a table has for a text
 abbrev pub found : List (List ℕ × Symbol) → List ℕ → Symbol
 found [] text = sym.Other
-found (x ∷ xs) text = if bytes_eq text x.0 then x.1 else found xs text
+found (x ∷ xs) text = if bytes_eq x.0 text then x.1 else found xs text
 
 unfoldable pub words : List (List ℕ × Symbol)
 words = map (λ x. (x.0.now, x.1)) WORDS

@@ -1,5 +1,5 @@
 -- What a token is to the grammar, and the classes that the grammar asks for (IEEE 1800-2017 Annex A).
-use Rattle.std.specs.Prelude.{ℕ, Bool, true, false, ◌||◌, ◌==◌, List, [], ◌∷◌}
+use Rattle.std.specs.Prelude.{ℕ, Bool, true, false, ◌==◌, List, [], ◌∷◌}
 use Rattle.sv_tree.specs.declared.symbol.Symbol.{Symbol}
 use Rattle.sv_tree.specs.declared.symbol.Symbol.TheVariants as sym
 

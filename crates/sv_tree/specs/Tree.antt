@@ -39,9 +39,9 @@ port_list x = token sym.ParenOpen x.open then maybe ports x.list then token sym.
 abbrev pub module_read : Module → Read
 module_read x =
     deeper (
-      token sym.Module x.word then token sym.Name x.name then maybe parameter_list x.parameters then maybe port_list x.ports
-      then token sym.Semicolon x.semicolon then texts (map item_read x.items)
-      then token sym.Endmodule x.end then maybe label x.end_label)
+    token sym.Module x.word then token sym.Name x.name then maybe parameter_list x.parameters then maybe port_list x.ports
+    then token sym.Semicolon x.semicolon then texts (map item_read x.items)
+    then token sym.Endmodule x.end then maybe label x.end_label)
 
 -- ---- all files
 

@@ -1,5 +1,5 @@
 -- How expressions read (IEEE 1800-2017 A.8.1 to A.8.4, 11.3.2).
-use Rattle.std.specs.Prelude.{ℕ, zero, suc, Bool, true, false, not, ◌&&◌, ◌==◌, nat_le, List, [], ◌∷◌, map}
+use Rattle.std.specs.Prelude.{ℕ, suc, Bool, true, false, not, ◌&&◌, ◌==◌, nat_le, List, [], ◌∷◌, map}
 use Rattle.sv_tree.specs.declared.symbol.Symbol.TheVariants as sym
 use Rattle.sv_tree.specs.declared.token.Token.{Token}
 use Rattle.sv_tree.specs.declared.tree.expr.Expr.{Expr}
@@ -9,7 +9,7 @@ use Rattle.sv_tree.specs.declared.tree.expr.Select.{Select}
 use Rattle.sv_tree.specs.declared.tree.expr.Step.{Step}
 use Rattle.sv_tree.specs.declared.tree.expr.Args.TheOpen.{Args-F, Expr-F, Select-F, Choice-F, Step-F}
 use Rattle.sv_tree.specs.declared.tree.expr.Args.TheFolds as folds
-use Rattle.sv_tree.specs.Symbol.{same, level_of, is_prefix, is_part}
+use Rattle.sv_tree.specs.Symbol.{level_of, is_prefix, is_part}
 use Rattle.sv_tree.specs.TreeRead.{Symbols, Read, any, one_of, token, ◌then◌, deeper, asks, nothing, each, all_of}
 
 abbrev pub is_empty : {A : Type 0} → List A → Bool
@@ -84,24 +84,24 @@ read_expr (Expr-F.Concat opens first more closes) =
     primary (deeper (token sym.BraceOpen opens then first.text then listed more then token sym.BraceClose closes))
 read_expr (Expr-F.Repeat opens count inner_opens first more inner_closes closes) =
     primary (deeper (
-      token sym.BraceOpen opens then count.text
-      then deeper (token sym.BraceOpen inner_opens then first.text then listed more then token sym.BraceClose inner_closes)
-      then token sym.BraceClose closes))
+    token sym.BraceOpen opens then count.text
+    then deeper (token sym.BraceOpen inner_opens then first.text then listed more then token sym.BraceClose inner_closes)
+    then token sym.BraceClose closes))
 read_expr (Expr-F.Call name opens args closes) =
     primary (token sym.Name name then deeper (token sym.ParenOpen opens then args then token sym.ParenClose closes))
 read_expr (Expr-F.System name opens arg closes) =
     primary (token sym.System name then deeper (token sym.ParenOpen opens then arg.text then token sym.ParenClose closes))
 read_expr (Expr-F.Prefix marks operand) = record {
   text = asks (λ s. not (is_empty marks) && nat_le (operand.rank s) 0) then each (one_of is_prefix) marks then operand.text;
-  rank = λ s. 1
+  rank = λ s. 1;
 }
 read_expr (Expr-F.Level first more) = record {
   text = asks (is_level first more) then first.text then operators more;
-  rank = λ s. suc (first_level s more)
+  rank = λ s. suc (first_level s more);
 }
 read_expr (Expr-F.Choose choices last) = record {
   text = asks (λ s. not (is_empty choices) && nat_le (last.rank s) 11) then all_of choices then last.text;
-  rank = λ s. 12
+  rank = λ s. 12;
 }
 
 -- ---- whole expressions

@@ -1,12 +1,12 @@
 -- The equations of what an expression reads as, one for each form.
-use Rattle.std.proofs.Common.{◌≡◌, List, [], ◌∷◌, map, sym, ap, ◌∙◌}
+use Rattle.std.proofs.Common.{◌≡◌, List, map, sym, ap, ◌∙◌}
 use Rattle.sv_tree.specs.declared.token.Token.{Token}
 use Rattle.sv_tree.specs.declared.tree.expr.Expr.{Expr}
 use Rattle.sv_tree.specs.declared.tree.expr.Args.{Args}
 use Rattle.sv_tree.specs.declared.tree.expr.Choice.{Choice, roll-Choice}
 use Rattle.sv_tree.specs.declared.tree.expr.Select.{Select}
 use Rattle.sv_tree.specs.declared.tree.expr.Step.{Step, roll-Step}
-use Rattle.sv_tree.specs.declared.tree.expr.Args.TheOpen.{Args-F, Expr-F, Select-F, Choice-F, Step-F}
+use Rattle.sv_tree.specs.declared.tree.expr.Args.TheOpen.{Args-F, Expr-F, Select-F}
 use Rattle.sv_tree.specs.declared.tree.expr.Args.TheFolds.{fold-roll-Args, fold-roll-Expr, fold-roll-Select, fold-roll-Choice, fold-roll-Step}
 use Rattle.sv_tree.specs.declared.tree.expr.Args.TheVariants as args
 use Rattle.sv_tree.specs.declared.tree.expr.Expr.TheVariants as expr

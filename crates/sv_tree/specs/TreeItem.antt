@@ -1,5 +1,4 @@
 -- How the items of a module read (IEEE 1800-2017 A.1.4, A.2.1 to A.2.6, A.4.1, A.4.2).
-use Rattle.std.specs.Prelude.{Bool, true, false, List, map, Option}
 use Rattle.sv_tree.specs.declared.symbol.Symbol.TheVariants as sym
 use Rattle.sv_tree.specs.declared.tree.item.Argument.{Argument}
 use Rattle.sv_tree.specs.declared.tree.item.Assignment.{Assignment}
@@ -21,7 +20,7 @@ use Rattle.sv_tree.specs.declared.tree.item.ItemBranch.{ItemBranch}
 use Rattle.sv_tree.specs.declared.tree.item.Linkage.{Linkage}
 use Rattle.sv_tree.specs.declared.tree.item.Overrides.{Overrides}
 use Rattle.sv_tree.specs.declared.tree.stmt.LoopHead.{LoopHead}
-use Rattle.sv_tree.specs.Symbol.{same, is_manner, is_parameter, is_always, is_edge, is_event_mark}
+use Rattle.sv_tree.specs.Symbol.{is_manner, is_parameter, is_always, is_edge, is_event_mark}
 use Rattle.sv_tree.specs.TreeRead.{Read, one_of, token, ◌then◌, deeper, maybe, list_by, commas}
 use Rattle.sv_tree.specs.TreeExpr.{expr, args_read}
 use Rattle.sv_tree.specs.TreeWords.{range, data_type, variable_type, result_type, argument_type, setting}
@@ -97,12 +96,12 @@ read_item (Item-F.Star word at star body) =
 read_item (Item-F.ParenStar word at opens star closes body) =
     let b = stmt_read body in
     ending_with b (
-      token sym.Always word then token sym.At at then token sym.ParenOpen opens then token sym.Star star then token sym.ParenClose closes then b.text)
+    token sym.Always word then token sym.At at then token sym.ParenOpen opens then token sym.Star star then token sym.ParenClose closes then b.text)
 read_item (Item-F.Clocked word at opens events closes body) =
     let b = stmt_read body in
     ending_with b (
-      one_of is_always word then token sym.At at then token sym.ParenOpen opens then list_by is_event_mark event events
-      then token sym.ParenClose closes then b.text)
+    one_of is_always word then token sym.At at then token sym.ParenOpen opens then list_by is_event_mark event events
+    then token sym.ParenClose closes then b.text)
 read_item (Item-F.Genvars word names semicolon) =
     plain (token sym.Genvar word then commas (token sym.Name) names then token sym.Semicolon semicolon)
 read_item (Item-F.Generate word parts end) = plain (deeper (token sym.Generate word then texts parts then token sym.Endgenerate end))
@@ -111,8 +110,8 @@ read_item (Item-F.If branches x body) = if_chain branches x body
 read_item (Item-F.IfElse branches last) = if_else_chain branches last
 read_item (Item-F.Instance child changes name opens ports closes semicolon) =
     plain (
-      token sym.Name child then maybe overrides changes then token sym.Name name
-      then token sym.ParenOpen opens then connections ports then token sym.ParenClose closes then token sym.Semicolon semicolon)
+    token sym.Name child then maybe overrides changes then token sym.Name name
+    then token sym.ParenOpen opens then connections ports then token sym.ParenClose closes then token sym.Semicolon semicolon)
 
 abbrev pub read_gen_block : GenBlock-F BodyRead BodyRead Read → BodyRead
 read_gen_block (GenBlock-F.Item x) = x

@@ -1,5 +1,5 @@
 -- The equations of what an item reads as, one for each form.
-use Rattle.std.proofs.Common.{◌≡◌, List, [], ◌∷◌, map, Option, sym, ap, ◌∙◌}
+use Rattle.std.proofs.Common.{◌≡◌, List, map, Option, sym, ap, ◌∙◌}
 use Rattle.sv_tree.specs.declared.token.Token.{Token}
 use Rattle.sv_tree.specs.declared.tree.item.Assignment.{Assignment}
 use Rattle.sv_tree.specs.declared.tree.item.Connections.{Connections}
@@ -7,7 +7,7 @@ use Rattle.sv_tree.specs.declared.tree.item.Declaration.{Declaration}
 use Rattle.sv_tree.specs.declared.tree.item.Event.{Event}
 use Rattle.sv_tree.specs.declared.tree.item.GenBlock.{GenBlock}
 use Rattle.sv_tree.specs.declared.tree.item.GenBlock.TheFolds.{fold-roll-GenBlock, fold-roll-Item, fold-roll-ItemBranch}
-use Rattle.sv_tree.specs.declared.tree.item.GenBlock.TheOpen.{GenBlock-F, Item-F, ItemBranch-F}
+use Rattle.sv_tree.specs.declared.tree.item.GenBlock.TheOpen.{GenBlock-F, Item-F}
 use Rattle.sv_tree.specs.declared.tree.item.GenBlock.TheVariants as gen_block
 use Rattle.sv_tree.specs.declared.tree.item.Import.{Import}
 use Rattle.sv_tree.specs.declared.tree.item.Item.{Item}

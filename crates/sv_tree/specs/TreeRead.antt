@@ -77,7 +77,7 @@ abbrev pub maybe : {A : Type 0} → (A → Read) → Option A → Read
 maybe f o = record {
   print = print_option (λ x. (f x).print) o;
   laid = lay_option (λ x. (f x).laid) o;
-  shaped = option_shaped (λ x. (f x).shaped) o
+  shaped = option_shaped (λ x. (f x).shaped) o;
 }
 
 -- ---- parts one after another
@@ -98,7 +98,7 @@ abbrev pub each : {A : Type 0} → (A → Read) → List A → Read
 each f xs = record {
   print = print_each (λ x. (f x).print) xs;
   laid = lay_each (λ x. (f x).laid) xs;
-  shaped = each_shaped (λ x. (f x).shaped) xs
+  shaped = each_shaped (λ x. (f x).shaped) xs;
 }
 
 abbrev pub all_of : List Read → Read

@@ -1,5 +1,5 @@
 -- How statements read (IEEE 1800-2017 A.6.2 to A.6.8, A.8.5).
-use Rattle.std.specs.Prelude.{Bool, true, false, not, ◌&&◌, List, map, Option}
+use Rattle.std.specs.Prelude.{Bool, true, false, not, ◌&&◌, List, Option}
 use Rattle.std.specs.Option.{is_some}
 use Rattle.sv_tree.specs.declared.symbol.Symbol.TheVariants as sym
 use Rattle.sv_tree.specs.declared.token.Token.{Token}
@@ -94,7 +94,7 @@ abbrev pub if_else_chain : List Read → BodyRead → BodyRead
 if_else_chain branches last = record {
   text = deeper (asks (λ s. not (is_empty branches) && not last.is_if) then all_of branches then last.text);
   is_if = true;
-  takes_else = last.takes_else
+  takes_else = last.takes_else;
 }
 
 -- ---- one layer of a statement, over what its parts read as
@@ -113,15 +113,15 @@ read_stmt (Stmt-F.If branches x body) = if_chain branches x body
 read_stmt (Stmt-F.IfElse branches last) = if_else_chain branches last
 read_stmt (Stmt-F.Case word opens subject closes arms end) =
     plain (deeper (
-      token sym.Case word then token sym.ParenOpen opens then expr subject then token sym.ParenClose closes
-      then all_of arms then token sym.Endcase end))
+    token sym.Case word then token sym.ParenOpen opens then expr subject then token sym.ParenClose closes
+    then all_of arms then token sym.Endcase end))
 read_stmt (Stmt-F.For head body) = ending_with body (deeper (stmt_loop head then body.text))
 read_stmt (Stmt-F.Assign target mark value semicolon) =
     plain (deeper (lvalue_read target then one_of is_assign mark then expr value then token sym.Semicolon semicolon))
 read_stmt (Stmt-F.Call name opens args closes semicolon) =
     plain (deeper (
-      token sym.Name name then deeper (token sym.ParenOpen opens then args_read args then token sym.ParenClose closes)
-      then token sym.Semicolon semicolon))
+    token sym.Name name then deeper (token sym.ParenOpen opens then args_read args then token sym.ParenClose closes)
+    then token sym.Semicolon semicolon))
 
 -- ---- whole statements
 

@@ -1,19 +1,19 @@
 -- The equations of what a statement reads as, one for each form.
-use Rattle.std.proofs.Common.{◌≡◌, List, [], ◌∷◌, map, Option, sym, ap, ◌∙◌}
+use Rattle.std.proofs.Common.{◌≡◌, List, map, Option, sym, ap, ◌∙◌}
 use Rattle.sv_tree.specs.declared.token.Token.{Token}
 use Rattle.sv_tree.specs.declared.tree.expr.Args.{Args}
 use Rattle.sv_tree.specs.declared.tree.expr.Expr.{Expr}
 use Rattle.sv_tree.specs.declared.tree.expr.Select.{Select}
 use Rattle.sv_tree.specs.declared.tree.expr.Step.{Step}
 use Rattle.sv_tree.specs.declared.tree.stmt.Arm.{Arm}
-use Rattle.sv_tree.specs.declared.tree.stmt.Arm.TheOpen.{Arm-F, Stmt-F, Branch-F}
+use Rattle.sv_tree.specs.declared.tree.stmt.Arm.TheOpen.{Arm-F, Stmt-F}
 use Rattle.sv_tree.specs.declared.tree.stmt.Arm.TheFolds.{fold-roll-Arm, fold-roll-Stmt, fold-roll-Branch}
 use Rattle.sv_tree.specs.declared.tree.stmt.Arm.TheVariants as arm
 use Rattle.sv_tree.specs.declared.tree.stmt.Branch.{Branch, roll-Branch}
 use Rattle.sv_tree.specs.declared.tree.stmt.LoopHead.{LoopHead}
 use Rattle.sv_tree.specs.declared.tree.stmt.Lvalue.{Lvalue}
 use Rattle.sv_tree.specs.declared.tree.stmt.Lvalue.TheFolds.{fold-roll-Lvalue, fold-roll-LvalueStep}
-use Rattle.sv_tree.specs.declared.tree.stmt.Lvalue.TheOpen.{Lvalue-F, LvalueStep-F}
+use Rattle.sv_tree.specs.declared.tree.stmt.Lvalue.TheOpen.{Lvalue-F}
 use Rattle.sv_tree.specs.declared.tree.stmt.Lvalue.TheVariants as lvalue
 use Rattle.sv_tree.specs.declared.tree.stmt.LvalueStep.{LvalueStep, roll-LvalueStep}
 use Rattle.sv_tree.specs.declared.tree.stmt.Stmt.{Stmt}

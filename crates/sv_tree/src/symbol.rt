@@ -1,3 +1,9 @@
+ghost use Rattle.std.specs.Prelude.{◌≡◌, ◌<◌, length, map};
+ghost use Rattle.sv_tree.specs.Spelling as spelling;
+
+use crate::names::Names;
+use crate::token::{Token, TokenKind};
+
 /// What a token is to the grammar: a kind whose spelling is free, or one spelling of a reserved
 /// word or a mark.
 #[derive(Clone, Copy, Debug, PartialEq, Eq)]
@@ -195,7 +201,7 @@ pub enum Symbol {
 }
 
 /// The reserved words of the grammar (IEEE 1800-2017 Annex B).
-pub const WORDS: [(&[u8], Symbol); 40] = [
+const WORDS: [(&[u8], Symbol); 40] = [
     (b"module", Symbol::Module),
     (b"endmodule", Symbol::Endmodule),
     (b"parameter", Symbol::Parameter),
@@ -239,7 +245,7 @@ pub const WORDS: [(&[u8], Symbol); 40] = [
 ];
 
 /// The marks of the grammar (IEEE 1800-2017 11.3, Annex A).
-pub const MARKS: [(&[u8], Symbol); 48] = [
+const MARKS: [(&[u8], Symbol); 48] = [
     (b"(", Symbol::ParenOpen),
     (b")", Symbol::ParenClose),
     (b"[", Symbol::BracketOpen),
@@ -289,3 +295,48 @@ pub const MARKS: [(&[u8], Symbol); 48] = [
     (b"+:", Symbol::PlusColon),
     (b"-:", Symbol::MinusColon),
 ];
+
+/// What a token is to the grammar. The number of its name is one of the table.
+pub fn symbol_of(names: &Names, token: Token) -> Symbol
+    requires { token.name.0 < length names.now }
+    ensures { result ≡ spelling.symbol_of names.now token }
+{
+    match token.kind {
+        TokenKind::Name => Symbol::Name,
+        TokenKind::Word => word(names.text(token.name)),
+        TokenKind::Decimal => Symbol::Decimal,
+        TokenKind::Based => Symbol::Based,
+        TokenKind::Fill => Symbol::Fill,
+        TokenKind::Text => Symbol::Text,
+        TokenKind::System => Symbol::System,
+        TokenKind::Directive => Symbol::Other,
+        TokenKind::Mark => mark(names.text(token.name)),
+    }
+}
+
+#[tactic(auto, unfolding(crate::specs::Spelling::words))]
+fn word(text: &[u8]) -> Symbol
+    ensures { result ≡ spelling.found spelling.words text.now }
+{
+    found(&WORDS, text)
+}
+
+#[tactic(auto, unfolding(crate::specs::Spelling::marks))]
+fn mark(text: &[u8]) -> Symbol
+    ensures { result ≡ spelling.found spelling.marks text.now }
+{
+    found(&MARKS, text)
+}
+
+/// What a table has for a text.
+fn found(mut table: &[(&[u8], Symbol)], text: &[u8]) -> Symbol
+    ensures { result ≡ spelling.found (map (λ x. (x.0.now, x.1)) table.entry.now) text.now }
+{
+    while let [(spelled, symbol), more @ ..] = table {
+        if *spelled == text {
+            return *symbol;
+        }
+        table = more;
+    }
+    Symbol::Other
+}

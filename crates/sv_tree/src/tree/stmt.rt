@@ -114,14 +114,8 @@ pub struct LoopHead {
 pub enum LoopStep {
     /// With `=`, `+=` or `-=`.
     Set(Setting),
-    After {
-        name: Token,
-        mark: Token,
-    },
-    Before {
-        mark: Token,
-        name: Token,
-    },
+    After { name: Token, mark: Token },
+    Before { mark: Token, name: Token },
 }
 
 /// `lvalue = NAME { select } | "{" lvalue { "," lvalue } "}"` (IEEE 1800-2017 A.8.5)

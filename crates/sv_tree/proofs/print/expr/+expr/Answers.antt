@@ -51,14 +51,14 @@ print_expr-returns-in-Paren t c =
 pub print_expr-returns-in-Concat : goal.print_expr-returns-in-Concat
 print_expr-returns-in-Concat t c =
     by_expr c.in-Concat.is (expr-Concat _ _ _ _)
-      (c.push-in-Concat.ensures and (rw c.get-in-Concat.ensures at c.print_expr-in-Concat.ensures) and (rw c.as_slice-in-Concat.ensures at c.print_steps.ensures) and c.push-in-Concat-2.ensures)
+    (c.push-in-Concat.ensures and (rw c.get-in-Concat.ensures at c.print_expr-in-Concat.ensures) and (rw c.as_slice-in-Concat.ensures at c.print_steps.ensures) and c.push-in-Concat-2.ensures)
 
 pub print_expr-returns-in-Repeat : goal.print_expr-returns-in-Repeat
 print_expr-returns-in-Repeat t c =
     by_expr c.in-Repeat.is (expr-Repeat _ _ _ _ _ _ _)
-      (c.push-in-Repeat.ensures and (rw c.get-in-Repeat.ensures at c.print_expr-in-Repeat.ensures)
-        and c.push-in-Repeat-2.ensures and (rw c.get-in-Repeat-2.ensures at c.print_expr-in-Repeat-2.ensures)
-        and (rw c.as_slice-in-Repeat.ensures at c.print_steps-in-Repeat.ensures) and c.push-in-Repeat-3.ensures and c.push-in-Repeat-4.ensures)
+    (c.push-in-Repeat.ensures and (rw c.get-in-Repeat.ensures at c.print_expr-in-Repeat.ensures)
+    and c.push-in-Repeat-2.ensures and (rw c.get-in-Repeat-2.ensures at c.print_expr-in-Repeat-2.ensures)
+    and (rw c.as_slice-in-Repeat.ensures at c.print_steps-in-Repeat.ensures) and c.push-in-Repeat-3.ensures and c.push-in-Repeat-4.ensures)
 
 pub print_expr-returns-in-Call : goal.print_expr-returns-in-Call
 print_expr-returns-in-Call t c =
@@ -67,7 +67,7 @@ print_expr-returns-in-Call t c =
 pub print_expr-returns-in-System : goal.print_expr-returns-in-System
 print_expr-returns-in-System t c =
     by_expr c.in-System.is (expr-System _ _ _ _)
-      (c.push-in-System.ensures and c.push-in-System-2.ensures and (rw c.get-in-System.ensures at c.print_expr-in-System.ensures) and c.push-in-System-3.ensures)
+    (c.push-in-System.ensures and c.push-in-System-2.ensures and (rw c.get-in-System.ensures at c.print_expr-in-System.ensures) and c.push-in-System-3.ensures)
 
 pub print_expr-returns-in-Prefix : goal.print_expr-returns-in-Prefix
 print_expr-returns-in-Prefix t c =
@@ -88,17 +88,17 @@ print_select-returns-in-Bit t c =
 pub print_select-returns-in-Part : goal.print_select-returns-in-Part
 print_select-returns-in-Part t c =
     by_select c.in-Part.is (select-Part _ _ _ _ _)
-      (c.push-in-Part.ensures and (rw c.get-in-Part.ensures at c.print_expr-in-Part.ensures)
-        and c.push-in-Part-2.ensures and (rw c.get-in-Part-2.ensures at c.print_expr-in-Part-2.ensures) and c.push-in-Part-3.ensures)
+    (c.push-in-Part.ensures and (rw c.get-in-Part.ensures at c.print_expr-in-Part.ensures)
+    and c.push-in-Part-2.ensures and (rw c.get-in-Part-2.ensures at c.print_expr-in-Part-2.ensures) and c.push-in-Part-3.ensures)
 
 pub print_choices-loop-choice-preserved : goal.print_choices-loop-choice-preserved
 print_choices-loop-choice-preserved t c =
     let reads = choice-roll c.choice-item.result.test c.choice-item.result.question c.choice-item.result.value c.choice-item.result.colon in
     rw add-one (prints_next c.choice-item.result c.loop-choice-test.true c.choice-item.is (λ rest r. ap (λ x. x.print ((all_of (map choice_read rest)).print r)) reads)
-      (c.print_expr.ensures and c.push.ensures and c.print_expr-in-loop-choice.ensures and c.push-in-loop-choice.ensures) c.loop-choice.invariant)
+    (c.print_expr.ensures and c.push.ensures and c.print_expr-in-loop-choice.ensures and c.push-in-loop-choice.ensures) c.loop-choice.invariant)
 
 pub print_steps-loop-step-preserved : goal.print_steps-loop-step-preserved
 print_steps-loop-step-preserved t c =
     let reads = step-roll c.step-item.result.mark c.step-item.result.operand in
     rw add-one (prints_next c.step-item.result c.loop-step-test.true c.step-item.is (λ rest r. ap (λ x. x.mark ∷ x.operand.text.print ((operators (map step_read rest)).print r)) reads)
-      (c.push.ensures and c.print_expr.ensures) c.loop-step.invariant)
+    (c.push.ensures and c.print_expr.ensures) c.loop-step.invariant)

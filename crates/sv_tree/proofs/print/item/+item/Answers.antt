@@ -26,7 +26,7 @@ print_item-returns-in-Import t c = by_item c.in-Import.is (item-Import _) c.prin
 pub print_item-returns-in-Parameters : goal.print_item-returns-in-Parameters
 print_item-returns-in-Parameters t c =
     by_item c.in-Parameters.is (item-Parameters _ _ _ _)
-      (c.push-in-Parameters.ensures and c.print-in-Parameters.ensures and c.print-in-Parameters-2.ensures and c.push-in-Parameters-2.ensures)
+    (c.push-in-Parameters.ensures and c.print-in-Parameters.ensures and c.print-in-Parameters-2.ensures and c.push-in-Parameters-2.ensures)
 
 pub print_item-returns-in-Variables : goal.print_item-returns-in-Variables
 print_item-returns-in-Variables t c =
@@ -46,14 +46,14 @@ print_item-returns-in-Star t c =
 pub print_item-returns-in-ParenStar : goal.print_item-returns-in-ParenStar
 print_item-returns-in-ParenStar t c =
     by_item c.in-ParenStar.is (item-ParenStar _ _ _ _ _ _)
-      (c.push-in-ParenStar.ensures and c.push-in-ParenStar-2.ensures and c.push-in-ParenStar-3.ensures and c.push-in-ParenStar-4.ensures and c.push-in-ParenStar-5.ensures
-        and c.print-in-ParenStar.ensures)
+    (c.push-in-ParenStar.ensures and c.push-in-ParenStar-2.ensures and c.push-in-ParenStar-3.ensures and c.push-in-ParenStar-4.ensures and c.push-in-ParenStar-5.ensures
+    and c.print-in-ParenStar.ensures)
 
 pub print_item-returns-in-Clocked : goal.print_item-returns-in-Clocked
 print_item-returns-in-Clocked t c =
     by_item c.in-Clocked.is (item-Clocked _ _ _ _ _ _)
-      (c.push-in-Clocked.ensures and c.push-in-Clocked-2.ensures and c.push-in-Clocked-3.ensures and c.print-in-Clocked.ensures and c.push-in-Clocked-4.ensures
-        and c.print-in-Clocked-2.ensures)
+    (c.push-in-Clocked.ensures and c.push-in-Clocked-2.ensures and c.push-in-Clocked-3.ensures and c.print-in-Clocked.ensures and c.push-in-Clocked-4.ensures
+    and c.print-in-Clocked-2.ensures)
 
 pub print_item-returns-in-Genvars : goal.print_item-returns-in-Genvars
 print_item-returns-in-Genvars t c =
@@ -69,18 +69,18 @@ print_item-returns-in-For t c = by_item c.in-For.is (item-For _ _) (c.print-in-F
 pub print_item-returns-in-If : goal.print_item-returns-in-If
 print_item-returns-in-If t c =
     by_item c.in-If.is (item-If _ _ _)
-      ((rw c.as_slice-in-If.ensures at c.print_item_branches.ensures) and c.print-in-If.ensures and (rw c.get-in-If.ensures at c.print_gen_block-in-If.ensures))
+    ((rw c.as_slice-in-If.ensures at c.print_item_branches.ensures) and c.print-in-If.ensures and (rw c.get-in-If.ensures at c.print_gen_block-in-If.ensures))
 
 pub print_item-returns-in-IfElse : goal.print_item-returns-in-IfElse
 print_item-returns-in-IfElse t c =
     by_item c.in-IfElse.is (item-IfElse _ _)
-      ((rw c.as_slice-in-IfElse.ensures at c.print_item_branches-in-IfElse.ensures) and (rw c.get-in-IfElse.ensures at c.print_gen_block-in-IfElse.ensures))
+    ((rw c.as_slice-in-IfElse.ensures at c.print_item_branches-in-IfElse.ensures) and (rw c.get-in-IfElse.ensures at c.print_gen_block-in-IfElse.ensures))
 
 pub print_item-returns-in-Instance : goal.print_item-returns-in-Instance
 print_item-returns-in-Instance t c =
     by_item c.in-Instance.is (item-Instance _ _ _ _ _ _ _)
-      (c.push-in-Instance.ensures and c.print-in-Instance.ensures and c.push-in-Instance-2.ensures and c.push-in-Instance-3.ensures
-        and c.print-in-Instance-2.ensures and c.push-in-Instance-4.ensures and c.push-in-Instance-5.ensures)
+    (c.push-in-Instance.ensures and c.print-in-Instance.ensures and c.push-in-Instance-2.ensures and c.push-in-Instance-3.ensures
+    and c.print-in-Instance-2.ensures and c.push-in-Instance-4.ensures and c.push-in-Instance-5.ensures)
 
 pub print_gen_block-returns-in-Item : goal.print_gen_block-returns-in-Item
 print_gen_block-returns-in-Item t c = by_gen_block c.in-Item.is (gen_block-Item _) (rw c.get.ensures at c.print_item.ensures)
@@ -88,10 +88,10 @@ print_gen_block-returns-in-Item t c = by_gen_block c.in-Item.is (gen_block-Item 
 pub print_gen_block-returns-in-Block : goal.print_gen_block-returns-in-Block
 print_gen_block-returns-in-Block t c =
     by_gen_block c.in-Block.is (gen_block-Block _ _ _ _ _)
-      (c.push.ensures and c.print.ensures and (rw c.as_slice.ensures at c.print_items.ensures) and c.push-in-Block.ensures and c.print-in-Block.ensures)
+    (c.push.ensures and c.print.ensures and (rw c.as_slice.ensures at c.print_items.ensures) and c.push-in-Block.ensures and c.print-in-Block.ensures)
 
 pub print_item_branches-loop-branch-preserved : goal.print_item_branches-loop-branch-preserved
 print_item_branches-loop-branch-preserved t c =
     let reads = item_branch-roll c.branch-item.result.test c.branch-item.result.body c.branch-item.result.else_word in
     rw add-one (prints_next c.branch-item.result c.loop-branch-test.true c.branch-item.is (λ rest r. ap (λ x. x.print ((all_of (map item_branch_read rest)).print r)) reads)
-      (c.print.ensures and c.print_gen_block.ensures and c.push.ensures) c.loop-branch.invariant)
+    (c.print.ensures and c.print_gen_block.ensures and c.push.ensures) c.loop-branch.invariant)

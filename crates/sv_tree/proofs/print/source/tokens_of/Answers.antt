@@ -7,5 +7,5 @@ pub returns : goal.returns
 unfolding tokens source_read
 returns c =
     MatchResult-weaker c.into_tokens.result c.into_tokens.ensures
-      (λ list is. printed_whole list.items c.new-out.ensures is (rw c.as_slice.ensures at c.print_descriptions.ensures))
-      (λ fault is. tt)
+    (λ list is. printed_whole list.items c.new-out.ensures is (rw c.as_slice.ensures at c.print_descriptions.ensures))
+    (λ fault is. tt)

@@ -17,10 +17,10 @@ print_lvalue-returns-in-Name t c = by_lvalue c.in-Name.is (lvalue-Name _ _) (c.p
 pub print_lvalue-returns-in-Concat : goal.print_lvalue-returns-in-Concat
 print_lvalue-returns-in-Concat t c =
     by_lvalue c.in-Concat.is (lvalue-Concat _ _ _ _)
-      (c.push-in-Concat.ensures and (rw c.get.ensures at c.print_lvalue.ensures) and (rw c.as_slice-in-Concat.ensures at c.print_lvalue_steps.ensures) and c.push-in-Concat-2.ensures)
+    (c.push-in-Concat.ensures and (rw c.get.ensures at c.print_lvalue.ensures) and (rw c.as_slice-in-Concat.ensures at c.print_lvalue_steps.ensures) and c.push-in-Concat-2.ensures)
 
 pub print_lvalue_steps-loop-step-preserved : goal.print_lvalue_steps-loop-step-preserved
 print_lvalue_steps-loop-step-preserved t c =
     let reads = lvalue_step-roll c.step-item.result.comma c.step-item.result.target in
     rw add-one (prints_next c.step-item.result c.loop-step-test.true c.step-item.is (λ rest r. ap (λ x. x.print ((all_of (map lvalue_step_read rest)).print r)) reads)
-      (c.push.ensures and c.print_lvalue.ensures) c.loop-step.invariant)
+    (c.push.ensures and c.print_lvalue.ensures) c.loop-step.invariant)
