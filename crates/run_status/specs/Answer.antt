@@ -41,6 +41,10 @@ output_of (Texts output) = output
 abbrev pub error_line : List ℕ → List ℕ
 error_line text = codes "vsim: " ++ text ++ codes "\n"
 
+-- a text about a place in a file, whose line and column are spelled
+abbrev pub placed_text : List ℕ → List ℕ → List ℕ → List ℕ → List ℕ
+placed_text file line col text = file ++ codes ":" ++ line ++ codes ":" ++ col ++ codes ": " ++ text
+
 -- the line was written whole, or a front of it where faults rose
 abbrev pub Tells : List ℕ → Option Written → Option Written → ℕ → ℕ → Type 0
 Tells text told told' faults faults' = (told' ≡ option_map (appended Errors (error_line text)) told) ⊎ (Said Errors (error_line text) told told' × Rose faults faults')

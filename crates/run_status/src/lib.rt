@@ -11,6 +11,7 @@
 //!
 //! ```text
 //! refuse(world, b"d.sv", b": not built yet")    // vsim: d.sv: not built yet    Refused, or WorldFault
+//! refuse_at(world, b"d.sv", at, b"unknown macro ", b"W")    // vsim: d.sv:1:9: unknown macro W
 //! cannot_read(world, b"none.sv")                // vsim: cannot read none.sv    WorldFault
 //! ```
 #![tactic(auto)]
@@ -18,5 +19,5 @@
 mod line;
 mod status;
 
-pub use line::{cannot_read, cannot_write_out, out_of_memory, refuse};
+pub use line::{cannot_read, cannot_write_out, out_of_memory, refuse, refuse_at};
 pub use status::Status;

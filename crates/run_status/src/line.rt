@@ -1,17 +1,23 @@
 // The one line on standard error.
-ghost use Rattle.std.specs.Prelude.{◌≡◌, ◌≤◌, ◌++◌, [], codes, OnOk, OnErr};
+ghost use Rattle.std.specs.Prelude.{◌≡◌, ◌≤◌, ◌++◌, [], codes, decimal, OnOk, OnErr};
 ghost use Rattle.std.specs.Option.{option_map};
 ghost use Rattle.vs_world.specs.Outside.{appended, IsOpen, Rose};
 ghost use Rattle.vs_world.specs.declared.world.Stream.TheVariants.{Errors as ErrorStream};
 ghost use Rattle.run_status.specs.Written.{Said, OnlyWrites, joined};
-ghost use Rattle.run_status.specs.Answer.{error_line, Tells, Refuses};
+ghost use Rattle.run_status.specs.Answer.{error_line, placed_text, Tells, Refuses};
 
 use crate::status::Status;
+use itoa::Buffer;
+use vs_base::Origin;
 use vs_world::{Stream, World, write_all};
 
 const START: &[u8] = b"vsim: ";
 
 const END: &[u8] = b"\n";
+
+const COLON: &[u8] = b":";
+
+const BLANK: &[u8] = b" ";
 
 // Writes pieces one after another.
 fn write_pieces<W: World>(world: &mut W, stream: Stream, pieces: &[&[u8]]) -> Result<(), ()>
@@ -51,6 +57,53 @@ pub fn refuse<W: World>(world: &mut W, start: &[u8], end: &[u8]) -> Status
     ensures rest { OnlyWrites (W.faults world.old) (W.faults world.new) (W.absent world.old) (W.absent world.new) (W.files world.old) (W.files world.new) (W.made world.old) (W.made world.new) }
 {
     match tell(world, start, end) {
+        Ok(()) => Status::Refused,
+        Err(()) => Status::WorldFault,
+    }
+}
+
+// Writes one line with a place on standard error, or as much of it as the world takes; says whether it is whole.
+fn tell_at<W: World>(
+    world: &mut W,
+    file: &[u8],
+    line: &[u8],
+    col: &[u8],
+    start: &[u8],
+    end: &[u8],
+) -> Result<(), ()>
+    ensures ok { OnOk result (W.written world.new ≡ option_map (appended ErrorStream (error_line (placed_text file.now line.now col.now (start.now ++ end.now)))) (W.written world.old)) }
+    ensures err { OnErr result (Said ErrorStream (error_line (placed_text file.now line.now col.now (start.now ++ end.now))) (W.written world.old) (W.written world.new)) }
+    ensures cause { OnErr result (Rose (W.faults world.old) (W.faults world.new)) }
+    ensures rest { OnlyWrites (W.faults world.old) (W.faults world.new) (W.absent world.old) (W.absent world.new) (W.files world.old) (W.files world.new) (W.made world.old) (W.made world.new) }
+{
+    let pieces = [
+        START, file, COLON, line, COLON, col, COLON, BLANK, start, end, END,
+    ];
+    match write_pieces(world, Stream::Errors, &pieces) {
+        Ok(()) => Ok(()),
+        Err(()) => Err(()),
+    }
+}
+
+/// Refuses a command by the line `vsim: FILE:LINE:COL: `, these two texts and a line feed on standard error, line and
+/// column in decimal.
+///
+/// Gives `Refused` where the line is whole, and `WorldFault` where the write failed.
+pub fn refuse_at<W: World>(
+    world: &mut W,
+    file: &[u8],
+    at: Origin,
+    start: &[u8],
+    end: &[u8],
+) -> Status
+    ensures told { Refuses result (placed_text file.now (decimal at.line) (decimal at.col) (start.now ++ end.now)) (W.written world.old) (W.written world.new) (W.faults world.old) (W.faults world.new) }
+    ensures rest { OnlyWrites (W.faults world.old) (W.faults world.new) (W.absent world.old) (W.absent world.new) (W.files world.old) (W.files world.new) (W.made world.old) (W.made world.new) }
+{
+    let mut line = Buffer::new();
+    let mut col = Buffer::new();
+    let line = line.format(at.line).as_bytes();
+    let col = col.format(at.col).as_bytes();
+    match tell_at(world, file, line, col, start, end) {
         Ok(()) => Status::Refused,
         Err(()) => Status::WorldFault,
     }

@@ -5,9 +5,10 @@
 //! ([`ValueType`]), and each call that depends on it takes a `signed`. The rules are those of
 //! IEEE 1800-2017, 11.6 (widths) and 11.8 (signs), at two states: a bit is 0 or 1.
 //!
-//! Each call on values is pinned by a definition of `specs/Number.antt` on width and number alone, so that
-//! upper crates never see a machine word. No call here refuses or takes memory, and each takes a fixed number
-//! of steps on words of 128 bits.
+//! Each call on values is pinned by a definition of `specs/Number.antt` or `specs/Operators.antt` on width and
+//! number alone, so that upper crates never see a machine word. The operators of the language (IEEE 1800-2017
+//! 11.4) are here, and nowhere else. No call refuses or takes memory, and each takes a fixed number of steps on
+//! words of 128 bits, but for [`Bits::repeat`], which takes one for each copy.
 //!
 //! Beside them stand [`Origin`], a place in a source file; [`Text`], a list of bytes; [`Act`], one step of a
 //! stimulus; [`Kind`], what a limit counts; and the [`limits`] themselves.
