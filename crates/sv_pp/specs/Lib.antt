@@ -1,0 +1,5 @@
+pub mod Directive
+pub mod Reading
+pub mod Active
+pub mod Answer
+pub mod Table

@@ -1,0 +1,354 @@
+//! The active tokens of files.
+
+use crate::directive::{Role, role_of};
+use crate::fault::PpFault;
+use crate::macros::Table;
+use crate::reading::{Going, named_by, read_use};
+use std::alloc::Global;
+use sv_tree::{Names, Token, TokenKind};
+use vs_base::Origin;
+use vs_base::limits::{MACRO_DEPTH, TOKENS};
+
+/// An open `` `ifdef `` or `` `ifndef ``.
+#[derive(Clone, Copy, Debug, PartialEq, Eq)]
+pub struct Open {
+    /// Its place.
+    pub at: Origin,
+    /// Whether tokens round it are active.
+    pub outer: bool,
+    /// Whether the branch that is read is the one taken.
+    pub taken: bool,
+    /// Whether that is the branch after `` `else ``.
+    pub is_else: bool,
+}
+
+/// Where a file has been read to: the macros, and the open branches, the innermost last.
+#[derive(Drop)]
+pub struct Place {
+    pub table: Table,
+    pub branches: Vec<Open>,
+}
+
+/// Whether tokens are active here.
+fn is_active(branches: &[Open]) -> bool {
+    let [.., last] = branches else {
+        return true;
+    };
+    last.outer && last.taken
+}
+
+/// How many tokens at the front begin on the line.
+fn line_length(line: u32, tokens: &[Token]) -> usize {
+    let mut rest = tokens;
+    let mut count = 0;
+    while let [token, more @ ..] = rest {
+        if token.at.line != line {
+            return count;
+        }
+        count += 1;
+        rest = more;
+    }
+    count
+}
+
+/// Whether `(` follows the name in the next column.
+fn opens_arguments(names: &Names, name: &Token, rest: &[Token]) -> bool {
+    let [next, ..] = rest else {
+        return false;
+    };
+    let after = name.at.col as u64 + names.text(name.name).len() as u64;
+    next.at.line == name.at.line
+        && next.at.col as u64 == after
+        && names.text(next.name) == b"(".as_slice()
+}
+
+/// Whether the name may not be defined: a directive's, or one with arguments.
+fn is_undefinable(names: &Names, name: &Token, rest: &[Token]) -> bool {
+    role_of(names.text(name.name)) != Role::Use || opens_arguments(names, name, rest)
+}
+
+/// So many tokens are read, and then the directive is faulty.
+fn refuse(going: &mut Going, count: usize, token: &Token) -> Result<usize, PpFault> {
+    if let Err(fault) = going.read(count) {
+        return Err(fault);
+    }
+    Err(PpFault::Directive(token.at, token.name))
+}
+
+/// Reads a definition after its name.
+fn define_as(
+    alloc: Global,
+    table: &mut Table,
+    going: &mut Going,
+    line: u32,
+    name: &Token,
+    rest: &[Token],
+) -> Result<usize, PpFault> {
+    let more = line_length(line, rest);
+    if let Err(fault) = going.read(more + 2) {
+        return Err(fault);
+    }
+    if let Err(fault) = table.define(alloc, name.name, &rest[..more]) {
+        return Err(fault);
+    }
+    Ok(more + 1)
+}
+
+/// Reads a definition.
+fn define(
+    alloc: Global,
+    names: &Names,
+    table: &mut Table,
+    going: &mut Going,
+    token: &Token,
+    rest: &[Token],
+) -> Result<usize, PpFault> {
+    let [name, more @ ..] = rest else {
+        return refuse(going, 1, token);
+    };
+    if name.kind != TokenKind::Name || name.at.line != token.at.line {
+        return refuse(going, 1, token);
+    }
+    if is_undefinable(names, name, more) {
+        return refuse(going, 2, token);
+    }
+    define_as(alloc, table, going, token.at.line, name, more)
+}
+
+/// Reads an `` `undef ``.
+fn undef(
+    table: &mut Table,
+    going: &mut Going,
+    token: &Token,
+    rest: &[Token],
+) -> Result<usize, PpFault> {
+    let [name, ..] = rest else {
+        return refuse(going, 1, token);
+    };
+    if name.kind != TokenKind::Name {
+        return refuse(going, 1, token);
+    }
+    if let Err(fault) = going.read(2) {
+        return Err(fault);
+    }
+    table.forget(name.name);
+    Ok(1)
+}
+
+/// Opens a branch that is taken where the name's being defined is as wanted.
+fn open_if(
+    names: &Names,
+    place: &mut Place,
+    going: &mut Going,
+    wanted: bool,
+    token: &Token,
+    rest: &[Token],
+) -> Result<usize, PpFault> {
+    let [name, ..] = rest else {
+        return refuse(going, 1, token);
+    };
+    if name.kind != TokenKind::Name {
+        return refuse(going, 1, token);
+    }
+    if let Err(fault) = going.read(2) {
+        return Err(fault);
+    }
+    let is_defined = place.table.body(names, names.text(name.name)).is_some();
+    let opened = Open {
+        at: token.at,
+        outer: is_active(&place.branches),
+        taken: is_defined == wanted,
+        is_else: false,
+    };
+    let Ok(()) = place.branches.push(opened) else {
+        return Err(PpFault::NoMemory);
+    };
+    Ok(1)
+}
+
+/// Turns to the other branch of the innermost.
+fn turn(branches: &mut Vec<Open>, going: &mut Going, token: &Token) -> Result<usize, PpFault> {
+    if let Err(fault) = going.read(1) {
+        return Err(fault);
+    }
+    let Some(last) = branches.pop() else {
+        return Err(PpFault::StrayElse(token.at));
+    };
+    if last.is_else {
+        return Err(PpFault::StrayElse(token.at));
+    }
+    let turned = Open {
+        at: last.at,
+        outer: last.outer,
+        taken: !last.taken,
+        is_else: true,
+    };
+    let Ok(()) = branches.push(turned) else {
+        return Err(PpFault::NoMemory);
+    };
+    Ok(0)
+}
+
+/// Closes the innermost branch.
+fn close(branches: &mut Vec<Open>, going: &mut Going, token: &Token) -> Result<usize, PpFault> {
+    if let Err(fault) = going.read(1) {
+        return Err(fault);
+    }
+    let Some(_) = branches.pop() else {
+        return Err(PpFault::StrayElse(token.at));
+    };
+    Ok(0)
+}
+
+/// Reads the token and so many after it, none of them active.
+fn skip(going: &mut Going, more: usize) -> Result<usize, PpFault> {
+    if let Err(fault) = going.read(1) {
+        return Err(fault);
+    }
+    if let Err(fault) = going.read(more) {
+        return Err(fault);
+    }
+    Ok(more)
+}
+
+/// Reads a directive where tokens are not active.
+fn skip_directive(
+    names: &Names,
+    place: &mut Place,
+    going: &mut Going,
+    token: &Token,
+    rest: &[Token],
+) -> Result<usize, PpFault> {
+    match role_of(named_by(names, token)) {
+        Role::Ifdef => open_if(names, place, going, true, token, rest),
+        Role::Ifndef => open_if(names, place, going, false, token, rest),
+        Role::Else => turn(&mut place.branches, going, token),
+        Role::Endif => close(&mut place.branches, going, token),
+        _ => skip(going, 0),
+    }
+}
+
+/// Reads the use of a macro in a file.
+fn use_in_file(
+    names: &Names,
+    table: &Table,
+    going: &mut Going,
+    token: &Token,
+) -> Result<usize, PpFault> {
+    if let Err(fault) = read_use(names, table, going, token.at, MACRO_DEPTH, token) {
+        return Err(fault);
+    }
+    Ok(0)
+}
+
+/// Reads a directive where tokens are active.
+fn read_directive(
+    alloc: Global,
+    names: &Names,
+    place: &mut Place,
+    going: &mut Going,
+    token: &Token,
+    rest: &[Token],
+) -> Result<usize, PpFault> {
+    match role_of(named_by(names, token)) {
+        Role::Define => define(alloc, names, &mut place.table, going, token, rest),
+        Role::Undef => undef(&mut place.table, going, token, rest),
+        Role::Ifdef => open_if(names, place, going, true, token, rest),
+        Role::Ifndef => open_if(names, place, going, false, token, rest),
+        Role::Else => turn(&mut place.branches, going, token),
+        Role::Endif => close(&mut place.branches, going, token),
+        Role::Ignored => skip(going, line_length(token.at.line, rest)),
+        Role::Refused => refuse(going, 1, token),
+        Role::Use => use_in_file(names, &place.table, going, token),
+    }
+}
+
+/// Reads a token that is no directive.
+fn read_plain(branches: &[Open], going: &mut Going, token: &Token) -> Result<usize, PpFault> {
+    if !is_active(branches) {
+        return skip(going, 0);
+    }
+    if let Err(fault) = going.give(*token) {
+        return Err(fault);
+    }
+    Ok(0)
+}
+
+/// Reads a token of a file; how many of those after it belong to it.
+fn step(
+    alloc: Global,
+    names: &Names,
+    place: &mut Place,
+    going: &mut Going,
+    token: &Token,
+    rest: &[Token],
+) -> Result<usize, PpFault> {
+    if token.kind != TokenKind::Directive {
+        return read_plain(&place.branches, going, token);
+    }
+    if is_active(&place.branches) {
+        return read_directive(alloc, names, place, going, token, rest);
+    }
+    skip_directive(names, place, going, token, rest)
+}
+
+/// Reads a file; its branches are closed at its end.
+fn read_file(
+    alloc: Global,
+    names: &Names,
+    place: &mut Place,
+    going: &mut Going,
+    tokens: &[Token],
+) -> Result<(), PpFault> {
+    let mut rest = tokens;
+    while let [token, after @ ..] = rest {
+        let more = match step(alloc, names, place, going, token, after) {
+            Ok(more) => more,
+            Err(fault) => return Err(fault),
+        };
+        rest = &after[more..];
+    }
+    if let [first, ..] = place.branches.as_slice() {
+        return Err(PpFault::OpenIf(first.at));
+    }
+    Ok(())
+}
+
+/// The active tokens of the files, of which at most 1,000,000 are read (IEEE 1800-2017 clause 22).
+///
+/// `UnknownMacro`, `MacroDepth`, `OpenIf`, `StrayElse`, `Directive`: the first fault in the order of
+/// reading, where at most 1,000,000 tokens are read up to it. `TooMany`: more are read up to the
+/// first other fault, or to the end. `NoMemory`: there was none left.
+pub fn preprocess(
+    alloc: Global,
+    files: &[Vec<Token>],
+    names: &Names,
+) -> Result<Vec<Token>, PpFault> {
+    preprocess_up_to(alloc, files, names, TOKENS)
+}
+
+/// As [`preprocess`], with the greatest number of tokens read as an argument.
+pub fn preprocess_up_to(
+    alloc: Global,
+    files: &[Vec<Token>],
+    names: &Names,
+    most: usize,
+) -> Result<Vec<Token>, PpFault> {
+    let mut place = Place {
+        table: Table::new(alloc, names)?,
+        branches: Vec::new(alloc),
+    };
+    let mut going = Going {
+        tokens: Vec::new(alloc),
+        count: 0,
+        most,
+    };
+    let mut rest = files;
+    while let [file, more @ ..] = rest {
+        if let Err(fault) = read_file(alloc, names, &mut place, &mut going, file) {
+            return Err(fault);
+        }
+        rest = more;
+    }
+    Ok(going.tokens)
+}
