@@ -21,7 +21,7 @@ at : ℕ → ℕ → Origin
 at line col = record { file = 0; line = line; col = col }
 
 spelled : TokenKind → ℕ → ℕ → ℕ → Token
-spelled k name line col = record { kind = k; name = record { «0» = name }; at = at line col }
+spelled k name line col = record { kind = k; name = record { 0 = name }; at = at line col }
 
 -- a macro's text is read in the stead of its use, at the place of the use, and is counted at the definition and at the use
 text_in_its_stead : reading names ((spelled kind.Directive 0 1 1 ∷ spelled kind.Name 8 1 9 ∷ spelled kind.Mark 10 1 11 ∷ spelled kind.Name 9 1 13 ∷ spelled kind.Directive 6 2 1 ∷ []) ∷ []) ≡ record { tokens = spelled kind.Mark 10 2 1 ∷ spelled kind.Name 9 2 1 ∷ []; count = 7; fault = None }
@@ -74,27 +74,27 @@ unfolding reading names spelled at role_of other_role is_ignored is_refused
 space_before_parenthesis = refl
 
 -- a use of a name that is not defined, in a macro's text, is told at the use in the file
-unknown_macro : reading names ((spelled kind.Directive 0 1 1 ∷ spelled kind.Name 8 1 9 ∷ spelled kind.Directive 7 1 11 ∷ spelled kind.Mark 10 2 1 ∷ spelled kind.Directive 6 3 1 ∷ []) ∷ []) ≡ record { tokens = spelled kind.Mark 10 2 1 ∷ []; count = 6; fault = Some (fault.UnknownMacro (at 3 1) (record { «0» = 7 })) }
+unknown_macro : reading names ((spelled kind.Directive 0 1 1 ∷ spelled kind.Name 8 1 9 ∷ spelled kind.Directive 7 1 11 ∷ spelled kind.Mark 10 2 1 ∷ spelled kind.Directive 6 3 1 ∷ []) ∷ []) ≡ record { tokens = spelled kind.Mark 10 2 1 ∷ []; count = 6; fault = Some (fault.UnknownMacro (at 3 1) (record { 0 = 7 })) }
 unfolding reading names spelled at role_of other_role is_ignored is_refused
 unknown_macro = refl
 
 -- a directive in a macro's text is a fault at the use
-directive_in_a_macro : reading names ((spelled kind.Directive 0 1 1 ∷ spelled kind.Name 8 1 9 ∷ spelled kind.Directive 5 1 11 ∷ spelled kind.Directive 6 2 1 ∷ []) ∷ []) ≡ record { tokens = []; count = 5; fault = Some (fault.Directive (at 2 1) (record { «0» = 5 })) }
+directive_in_a_macro : reading names ((spelled kind.Directive 0 1 1 ∷ spelled kind.Name 8 1 9 ∷ spelled kind.Directive 5 1 11 ∷ spelled kind.Directive 6 2 1 ∷ []) ∷ []) ≡ record { tokens = []; count = 5; fault = Some (fault.Directive (at 2 1) (record { 0 = 5 })) }
 unfolding reading names spelled at role_of other_role is_ignored is_refused
 directive_in_a_macro = refl
 
 -- `define` wants its name on its line
-no_name_on_the_line : reading names ((spelled kind.Directive 0 1 1 ∷ spelled kind.Name 8 2 1 ∷ spelled kind.Mark 10 2 3 ∷ []) ∷ []) ≡ record { tokens = []; count = 1; fault = Some (fault.Directive (at 1 1) (record { «0» = 0 })) }
+no_name_on_the_line : reading names ((spelled kind.Directive 0 1 1 ∷ spelled kind.Name 8 2 1 ∷ spelled kind.Mark 10 2 3 ∷ []) ∷ []) ≡ record { tokens = []; count = 1; fault = Some (fault.Directive (at 1 1) (record { 0 = 0 })) }
 unfolding reading names spelled at role_of other_role is_ignored is_refused
 no_name_on_the_line = refl
 
 -- a `(` directly after the name is a fault
-arguments : reading names ((spelled kind.Directive 0 1 1 ∷ spelled kind.Name 8 1 9 ∷ spelled kind.Mark 11 1 10 ∷ spelled kind.Name 9 1 12 ∷ []) ∷ []) ≡ record { tokens = []; count = 2; fault = Some (fault.Directive (at 1 1) (record { «0» = 0 })) }
+arguments : reading names ((spelled kind.Directive 0 1 1 ∷ spelled kind.Name 8 1 9 ∷ spelled kind.Mark 11 1 10 ∷ spelled kind.Name 9 1 12 ∷ []) ∷ []) ≡ record { tokens = []; count = 2; fault = Some (fault.Directive (at 1 1) (record { 0 = 0 })) }
 unfolding reading names spelled at role_of other_role is_ignored is_refused
 arguments = refl
 
 -- the name of a directive may not be defined
-directive_name : reading names ((spelled kind.Mark 10 1 1 ∷ spelled kind.Directive 0 1 3 ∷ spelled kind.Name 14 1 11 ∷ spelled kind.Name 9 1 16 ∷ []) ∷ []) ≡ record { tokens = spelled kind.Mark 10 1 1 ∷ []; count = 3; fault = Some (fault.Directive (at 1 3) (record { «0» = 0 })) }
+directive_name : reading names ((spelled kind.Mark 10 1 1 ∷ spelled kind.Directive 0 1 3 ∷ spelled kind.Name 14 1 11 ∷ spelled kind.Name 9 1 16 ∷ []) ∷ []) ≡ record { tokens = spelled kind.Mark 10 1 1 ∷ []; count = 3; fault = Some (fault.Directive (at 1 3) (record { 0 = 0 })) }
 unfolding reading names spelled at role_of other_role is_ignored is_refused
 directive_name = refl
 
@@ -114,7 +114,7 @@ unfolding reading names spelled at role_of other_role is_ignored is_refused
 within_itself = refl
 
 -- `ifdef` without a name is a fault where tokens are skipped too
-missing_where_skipped : reading names ((spelled kind.Directive 2 1 1 ∷ spelled kind.Name 8 1 8 ∷ spelled kind.Directive 2 2 1 ∷ spelled kind.Directive 5 2 8 ∷ []) ∷ []) ≡ record { tokens = []; count = 3; fault = Some (fault.Directive (at 2 1) (record { «0» = 2 })) }
+missing_where_skipped : reading names ((spelled kind.Directive 2 1 1 ∷ spelled kind.Name 8 1 8 ∷ spelled kind.Directive 2 2 1 ∷ spelled kind.Directive 5 2 8 ∷ []) ∷ []) ≡ record { tokens = []; count = 3; fault = Some (fault.Directive (at 2 1) (record { 0 = 2 })) }
 unfolding reading names spelled at role_of other_role is_ignored is_refused
 missing_where_skipped = refl
 

@@ -5,7 +5,7 @@ use Rattle.sv_tree.specs.Tokens.{AreNamed}
 use Rattle.sv_pp.specs.declared.fault.PpFault.{PpFault}
 use Rattle.sv_pp.specs.declared.fault.PpFault.TheVariants as fault
 use Rattle.sv_pp.specs.Directive.{Text}
-use Rattle.sv_pp.specs.Reading.{Reading}
+use Rattle.sv_pp.specs.Reading.{Reading, joined}
 
 -- each file's tokens have their spellings in the table
 abbrev pub AllNamed : List Text → List (List Token) → Type 0
@@ -23,3 +23,16 @@ abbrev pub FaultIs : ℕ → PpFault → Reading → Type 0
 FaultIs most fault.NoMemory r = Unit {0}
 FaultIs most fault.TooMany r = most < r.count
 FaultIs most f r = (r.fault ≡ Some f) × (r.count ≤ most)
+
+-- what was read so far, without a fault
+abbrev pub so_far : List Token → ℕ → Reading
+so_far tokens count = record { tokens = tokens; count = count; fault = None }
+
+-- it was read to its end after what was read before, within the limit
+pub record Went (most : ℕ) (before after r : Reading) : Type 0 where
+  pub is : after ≡ joined before r
+  pub few : after.count ≤ most
+
+-- its fault is the answer, after what was read before
+abbrev pub Stops : ℕ → Reading → Reading → PpFault → Type 0
+Stops most before r f = FaultIs most f (joined before r)

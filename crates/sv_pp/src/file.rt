@@ -1,5 +1,10 @@
 //! The active tokens of files.
 
+ghost use Rattle.std.specs.Prelude.{◌≡◌, ◌<◌, ◌≤◌, length, map, IfOk, IfErr};
+ghost use Rattle.sv_tree.specs.Tokens.{AreNamed};
+ghost use Rattle.sv_pp.specs.Active as spec;
+ghost use Rattle.sv_pp.specs.Answer.{AllNamed, ReadsAs, FaultIs};
+
 use crate::directive::{Role, role_of};
 use crate::fault::PpFault;
 use crate::macros::Table;
@@ -38,7 +43,10 @@ fn is_active(branches: &[Open]) -> bool {
 }
 
 /// How many tokens at the front begin on the line.
-fn line_length(line: u32, tokens: &[Token]) -> usize {
+fn line_length(line: u32, tokens: &[Token]) -> usize
+    ensures value { result ≡ spec.line_length line tokens.now }
+    ensures within { result ≤ length tokens.now }
+{
     let mut rest = tokens;
     let mut count = 0;
     while let [token, more @ ..] = rest {
@@ -52,7 +60,11 @@ fn line_length(line: u32, tokens: &[Token]) -> usize {
 }
 
 /// Whether `(` follows the name in the next column.
-fn opens_arguments(names: &Names, name: &Token, rest: &[Token]) -> bool {
+fn opens_arguments(names: &Names, name: &Token, rest: &[Token]) -> bool
+    requires name { name.now.name.0 < length names.now }
+    requires named { AreNamed names.now rest.now }
+    ensures { result ≡ spec.opens_arguments names.now name.now rest.now }
+{
     let [next, ..] = rest else {
         return false;
     };
@@ -63,7 +75,11 @@ fn opens_arguments(names: &Names, name: &Token, rest: &[Token]) -> bool {
 }
 
 /// Whether the name may not be defined: a directive's, or one with arguments.
-fn is_undefinable(names: &Names, name: &Token, rest: &[Token]) -> bool {
+fn is_undefinable(names: &Names, name: &Token, rest: &[Token]) -> bool
+    requires name { name.now.name.0 < length names.now }
+    requires named { AreNamed names.now rest.now }
+    ensures { result ≡ spec.is_undefinable names.now name.now rest.now }
+{
     role_of(names.text(name.name)) != Role::Use || opens_arguments(names, name, rest)
 }
 
@@ -319,11 +335,11 @@ fn read_file(
 /// `UnknownMacro`, `MacroDepth`, `OpenIf`, `StrayElse`, `Directive`: the first fault in the order of
 /// reading, where at most 1,000,000 tokens are read up to it. `TooMany`: more are read up to the
 /// first other fault, or to the end. `NoMemory`: there was none left.
-pub fn preprocess(
-    alloc: Global,
-    files: &[Vec<Token>],
-    names: &Names,
-) -> Result<Vec<Token>, PpFault> {
+pub fn preprocess(alloc: Global, files: &[Vec<Token>], names: &Names) -> Result<Vec<Token>, PpFault>
+    requires named { AllNamed names.now (map (λ file. file.items) files.now) }
+    ensures tokens { IfOk result (λ tokens. ReadsAs 1000000 tokens.items (spec.reading names.now (map (λ file. file.items) files.now))) }
+    ensures fault { IfErr result (λ f. FaultIs 1000000 f (spec.reading names.now (map (λ file. file.items) files.now))) }
+{
     preprocess_up_to(alloc, files, names, TOKENS)
 }
 
@@ -333,7 +349,11 @@ pub fn preprocess_up_to(
     files: &[Vec<Token>],
     names: &Names,
     most: usize,
-) -> Result<Vec<Token>, PpFault> {
+) -> Result<Vec<Token>, PpFault>
+    requires named { AllNamed names.now (map (λ file. file.items) files.now) }
+    ensures tokens { IfOk result (λ tokens. ReadsAs most tokens.items (spec.reading names.now (map (λ file. file.items) files.now))) }
+    ensures fault { IfErr result (λ f. FaultIs most f (spec.reading names.now (map (λ file. file.items) files.now))) }
+{
     let mut place = Place {
         table: Table::new(alloc, names)?,
         branches: Vec::new(alloc),

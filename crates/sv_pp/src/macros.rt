@@ -1,7 +1,13 @@
 //! The macros that are defined.
 
+ghost use Rattle.std.specs.Prelude.{◌≡◌, ◌<◌, length, set, IfOk, OnOk, OnErr, IfErr, Some, None};
+ghost use Rattle.std.specs.Option.{option_map};
+ghost use Rattle.sv_pp.specs.Table.{Keeps};
+ghost use Rattle.sv_pp.specs.Reading.{Macros, no_macros};
+
 use crate::fault::PpFault;
 use std::alloc::Global;
+use std::marker::Model;
 use sv_tree::{NameId, Names, Token};
 
 /// The text of each macro, at the number of its name.
@@ -10,9 +16,22 @@ pub struct Table {
     bodies: Vec<Option<Vec<Token>>>,
 }
 
+impl Model for Table {
+    ghost use Rattle.std.specs.Prelude.{List, Option, map};
+    ghost use Rattle.std.specs.Option.{option_map};
+    ghost use Rattle.sv_tree.specs.declared.token.Token.{Token};
+
+    ghost Value = { List (Option (List Token)) };
+
+    ghost view = { λ t. map (option_map (λ body. body.items)) t.bodies.items };
+}
+
 impl Table {
     /// No macro is defined.
-    pub fn new(alloc: Global, names: &Names) -> Result<Table, PpFault> {
+    pub fn new(alloc: Global, names: &Names) -> Result<Table, PpFault>
+        ensures empty { IfOk result (λ table. Keeps names.now table no_macros) }
+        ensures fault { IfErr result (λ f. f ≡ PpFault.NoMemory) }
+    {
         let mut bodies = Vec::new(alloc);
         for _ in 0..names.len() {
             let Ok(()) = bodies.push(None) else {
@@ -23,7 +42,9 @@ impl Table {
     }
 
     /// The text of a macro by its name, if it is defined.
-    pub fn body<'a>(&'a self, names: &Names, name: &[u8]) -> Option<&'a [Token]> {
+    pub fn body<'a>(&'a self, names: &Names, name: &[u8]) -> Option<&'a [Token]>
+        ensures { (macros : Macros) → Keeps names.now self.now macros → option_map (λ body. body.now) result ≡ macros name.now }
+    {
         let Some(id) = names.find(name) else {
             return None;
         };
@@ -34,7 +55,11 @@ impl Table {
     }
 
     /// Gives a macro its text; what it had before is forgotten.
-    pub fn define(&mut self, alloc: Global, name: NameId, body: &[Token]) -> Result<(), PpFault> {
+    pub fn define(&mut self, alloc: Global, name: NameId, body: &[Token]) -> Result<(), PpFault>
+        requires { name.0 < length self.old }
+        ensures kept { OnOk result (self.new ≡ set self.old name.0 (Some body.now)) }
+        ensures fault { IfErr result (λ f. f ≡ PpFault.NoMemory) }
+    {
         let Ok(kept) = Vec::from_slice(alloc, body) else {
             return Err(PpFault::NoMemory);
         };
@@ -43,7 +68,10 @@ impl Table {
     }
 
     /// Forgets a macro, defined or not.
-    pub fn forget(&mut self, name: NameId) {
+    pub fn forget(&mut self, name: NameId)
+        requires { name.0 < length self.old }
+        ensures { self.new ≡ set self.old name.0 None }
+    {
         self.bodies[name.0 as usize] = None;
     }
 }

@@ -1,5 +1,12 @@
 //! What has been read so far, and the reading of a macro's use.
 
+ghost use Rattle.std.specs.Prelude.{◌≡◌, ◌<◌, ◌≤◌, ◌+◌, ◌∷◌, ◌++◌, [], length, OnOk, IfErr, MatchResult, ◌⊎◌};
+ghost use Rattle.sv_tree.specs.Tokens.{AreNamed};
+ghost use Rattle.sv_pp.specs.Reading as spec;
+ghost use Rattle.sv_pp.specs.Reading.{Macros};
+ghost use Rattle.sv_pp.specs.Answer.{so_far, Went, Stops};
+ghost use Rattle.sv_pp.specs.Table.{Keeps};
+
 use crate::directive::{Role, role_of, without_backquote};
 use crate::fault::PpFault;
 use crate::macros::Table;
@@ -16,7 +23,12 @@ pub struct Going {
 
 impl Going {
     /// So many tokens are read.
-    pub fn read(&mut self, count: usize) -> Result<(), PpFault> {
+    pub fn read(&mut self, count: usize) -> Result<(), PpFault>
+        ensures most { self.new.most ≡ self.old.most }
+        ensures tokens { self.new.tokens.items ≡ self.old.tokens.items }
+        ensures count { OnOk result ((self.new.count ≡ self.old.count + count) × (self.new.count ≤ self.old.most)) }
+        ensures fault { IfErr result (λ f. (f ≡ PpFault.TooMany) × (self.old.most < self.old.count + count)) }
+    {
         if self.count > self.most || count > self.most - self.count {
             return Err(PpFault::TooMany);
         }
@@ -25,7 +37,11 @@ impl Going {
     }
 
     /// A token is read and active.
-    pub fn give(&mut self, token: Token) -> Result<(), PpFault> {
+    pub fn give(&mut self, token: Token) -> Result<(), PpFault>
+        ensures most { self.new.most ≡ self.old.most }
+        ensures given { OnOk result ((self.new.tokens.items ≡ self.old.tokens.items ++ token ∷ []) × (self.new.count ≡ self.old.count + 1) × (self.new.count ≤ self.old.most)) }
+        ensures fault { IfErr result (λ f. (f ≡ PpFault.NoMemory) ⊎ ((f ≡ PpFault.TooMany) × (self.old.most < self.old.count + 1))) }
+    {
         if let Err(fault) = self.read(1) {
             return Err(fault);
         }
@@ -37,7 +53,10 @@ impl Going {
 }
 
 /// The name after a directive's backquote.
-pub fn named_by<'a>(names: &'a Names, token: &Token) -> &'a [u8] {
+pub fn named_by<'a>(names: &'a Names, token: &Token) -> &'a [u8]
+    requires { token.now.name.0 < length names.now }
+    ensures { result.now ≡ spec.named_by names.now token.now }
+{
     without_backquote(names.text(token.name))
 }
 
@@ -50,7 +69,12 @@ pub fn read_use(
     at: Origin,
     levels: u32,
     token: &Token,
-) -> Result<(), PpFault> {
+) -> Result<(), PpFault>
+    requires named { token.now.name.0 < length names.now }
+    requires kept { (macros : Macros) × Keeps names.now table.now macros }
+    ensures most { going.new.most ≡ going.old.most }
+    ensures reads { (macros : Macros) → Keeps names.now table.now macros → MatchResult result (λ _. Went going.old.most (so_far going.old.tokens.items going.old.count) (so_far going.new.tokens.items going.new.count) (spec.use_reading names.now macros at levels token.now)) (λ f. Stops going.old.most (so_far going.old.tokens.items going.old.count) (spec.use_reading names.now macros at levels token.now) f) }
+{
     if let Err(fault) = going.read(1) {
         return Err(fault);
     }
@@ -72,7 +96,12 @@ fn read_body(
     at: Origin,
     levels: u32,
     body: &[Token],
-) -> Result<(), PpFault> {
+) -> Result<(), PpFault>
+    requires named { AreNamed names.now body.now }
+    requires kept { (macros : Macros) × Keeps names.now table.now macros }
+    ensures most { going.new.most ≡ going.old.most }
+    ensures reads { (macros : Macros) → Keeps names.now table.now macros → MatchResult result (λ _. Went going.old.most (so_far going.old.tokens.items going.old.count) (so_far going.new.tokens.items going.new.count) (spec.each_reading (spec.inner_reading names.now at (spec.use_reading names.now macros at levels)) body.now)) (λ f. Stops going.old.most (so_far going.old.tokens.items going.old.count) (spec.each_reading (spec.inner_reading names.now at (spec.use_reading names.now macros at levels)) body.now) f) }
+{
     let mut rest = body;
     while let [token, more @ ..] = rest {
         if let Err(fault) = read_inner(names, table, going, at, levels, token) {
@@ -92,7 +121,12 @@ fn read_inner(
     at: Origin,
     levels: u32,
     token: &Token,
-) -> Result<(), PpFault> {
+) -> Result<(), PpFault>
+    requires named { token.now.name.0 < length names.now }
+    requires kept { (macros : Macros) × Keeps names.now table.now macros }
+    ensures most { going.new.most ≡ going.old.most }
+    ensures reads { (macros : Macros) → Keeps names.now table.now macros → MatchResult result (λ _. Went going.old.most (so_far going.old.tokens.items going.old.count) (so_far going.new.tokens.items going.new.count) (spec.inner_reading names.now at (spec.use_reading names.now macros at levels) token.now)) (λ f. Stops going.old.most (so_far going.old.tokens.items going.old.count) (spec.inner_reading names.now at (spec.use_reading names.now macros at levels) token.now) f) }
+{
     if token.kind != TokenKind::Directive {
         return going.give(Token {
             kind: token.kind,
