@@ -33,7 +33,7 @@ impl Table {
         ensures fault { IfErr result (λ f. f ≡ PpFault.NoMemory) }
     {
         let mut bodies = Vec::new(alloc);
-        for _ in 0..names.len() {
+        while bodies.len() < names.len() {
             let Ok(()) = bodies.push(None) else {
                 return Err(PpFault::NoMemory);
             };

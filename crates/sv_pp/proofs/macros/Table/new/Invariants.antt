@@ -1,5 +1,8 @@
-use Rattle.std.proofs.Common.{◌≡◌, None, replicate}
+use Rattle.std.proofs.Common.{◌≡◌, ◌≤◌, ◌-◌, None, length, replicate}
 use Rattle.sv_pp.proofs.macros.Table.new.Given as goal
 
-abbrev pub invariant-loop-_ : goal.invariant-loop-_
-invariant-loop-_ l = l.bodies.items ≡ replicate l._-index None
+abbrev pub invariant-loop-bodies : goal.invariant-loop-bodies
+invariant-loop-bodies l = (l.bodies.items ≡ replicate (length l.bodies.items) None) × (length l.bodies.items ≤ length l.names)
+
+abbrev pub decreases-loop-bodies : goal.decreases-loop-bodies
+decreases-loop-bodies l = length l.names - length l.bodies.items
