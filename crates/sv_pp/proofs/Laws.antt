@@ -1,13 +1,13 @@
 -- Laws of readings: what is joined, and what stays true of a fault.
 use Rattle.std.specs.Prelude.{◌≡◌, ◌≤◌, ◌<◌, ℕ, zero, suc, ◌+◌, List, [], ◌∷◌, ◌++◌, drop, Option, Some, None}
-use Rattle.std.proofs.Common.{refl, sym, ap, ◌∙◌, arith, append_assoc, append-nil}
+use Rattle.std.proofs.Common.{refl, sym, ap, ◌∙◌, subst, arith, append_assoc, append-nil}
 use Rattle.sv_tree.specs.declared.token.Token.{Token}
 use Rattle.sv_pp.specs.declared.fault.PpFault.{PpFault}
 use Rattle.sv_pp.specs.declared.fault.PpFault.TheVariants as fault
 use Rattle.sv_pp.specs.Directive.{Text}
-use Rattle.sv_pp.specs.Reading.{Reading, Macros, joined, joined_by, silent}
+use Rattle.sv_pp.specs.Reading.{Reading, Macros, joined, joined_by, silent, each_reading}
 use Rattle.sv_pp.specs.Active.{State, file_reading}
-use Rattle.sv_pp.specs.Answer.{FaultIs}
+use Rattle.sv_pp.specs.Answer.{FaultIs, so_far, Went, Stops}
 
 abbrev record_of : List Token → ℕ → Option PpFault → Reading
 record_of ts n f = record { tokens = ts; count = n; fault = f }
@@ -22,6 +22,7 @@ joined_assoc a b c = by a.fault refl
     rest : (g : Option PpFault) → joined (joined_by None a (record { tokens = b.tokens; count = b.count; fault = g })) c ≡ joined_by None a (joined (record { tokens = b.tokens; count = b.count; fault = g }) c)
     rest (Some g) = refl
     rest None = alike (append_assoc a.tokens b.tokens c.tokens) (omega arith)
+
     by : (f : Option PpFault) → a.fault ≡ f → joined (joined_by f a b) c ≡ joined_by f a (joined b c)
     by None is = rest b.fault
     by (Some f) is = ap (λ g. joined_by g a c) is
@@ -53,3 +54,20 @@ pub passed_over : (names : List Text) (next : Macros → Reading) (left : ℕ) (
 passed_over names next zero s ts = refl
 passed_over names next (suc left) s [] = refl
 passed_over names next (suc left) s (t ∷ ts) = passed_over names next left s ts
+
+-- ---- what was read so far
+
+joined_nothing : (ts : List Token) (n : ℕ) → joined (so_far ts n) (silent 0) ≡ so_far ts n
+joined_nothing ts n = alike (append-nil ts) (omega arith)
+
+-- a token more was read, and what is left comes to the same whole
+pub went_on : (most : ℕ) (before after whole : Reading) (f : Token → Reading) (t : Token) (rest : List Token) → joined before (each_reading f (t ∷ rest)) ≡ whole → Went most before after (f t) → joined after (each_reading f rest) ≡ whole
+went_on most before after whole f t rest is went = ap (λ r. joined r (each_reading f rest)) went.is ∙ joined_assoc before (f t) (each_reading f rest) ∙ is
+
+-- nothing is left: the whole was read
+pub went_end : (most : ℕ) (before r : Reading) (ts : List Token) (n : ℕ) → joined (so_far ts n) (silent 0) ≡ joined before r → n ≤ most → Went most before (so_far ts n) r
+went_end most before r ts n is few = record { is = sym (joined_nothing ts n) ∙ is; few = few }
+
+-- a token's fault is that of the whole
+pub went_wrong : (most : ℕ) (before whole : Reading) (f : Token → Reading) (t : Token) (rest : List Token) (e : PpFault) → joined before (each_reading f (t ∷ rest)) ≡ whole → Stops most before (f t) e → FaultIs most e whole
+went_wrong most before whole f t rest e is stops = subst (λ r. FaultIs most e r) (joined_assoc before (f t) (each_reading f rest) ∙ is) (fault_stays most e (joined before (f t)) (each_reading f rest) stops)

@@ -1,8 +1,10 @@
 //! The active tokens of files.
 
-ghost use Rattle.std.specs.Prelude.{◌≡◌, ◌<◌, ◌≤◌, length, map, IfOk, IfErr};
+ghost use Rattle.std.specs.Prelude.{◌≡◌, ◌<◌, ◌≤◌, ◌+◌, length, map, IfOk, OnOk, IfErr};
 ghost use Rattle.sv_tree.specs.Tokens.{AreNamed};
 ghost use Rattle.sv_pp.specs.Active as spec;
+ghost use Rattle.sv_pp.specs.Reading.{Macros};
+ghost use Rattle.sv_pp.specs.Table.{Keeps};
 ghost use Rattle.sv_pp.specs.Answer.{AllNamed, ReadsAs, FaultIs};
 
 use crate::directive::{Role, role_of};
@@ -99,7 +101,11 @@ fn define_as(
     line: u32,
     name: &Token,
     rest: &[Token],
-) -> Result<usize, PpFault> {
+) -> Result<usize, PpFault>
+    requires name { name.now.name.0 < length table.old }
+    ensures within { IfOk result (λ more. more ≤ length rest.now + 1) }
+    ensures room { OnOk result (length table.new ≡ length table.old) }
+{
     let more = line_length(line, rest);
     if let Err(fault) = going.read(more + 2) {
         return Err(fault);
@@ -118,7 +124,13 @@ fn define(
     going: &mut Going,
     token: &Token,
     rest: &[Token],
-) -> Result<usize, PpFault> {
+) -> Result<usize, PpFault>
+    requires token { token.now.name.0 < length names.now }
+    requires named { AreNamed names.now rest.now }
+    requires room { length table.old ≡ length names.now }
+    ensures within { IfOk result (λ more. more ≤ length rest.now) }
+    ensures room { OnOk result (length table.new ≡ length table.old) }
+{
     let [name, more @ ..] = rest else {
         return refuse(going, 1, token);
     };
