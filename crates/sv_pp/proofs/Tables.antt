@@ -8,7 +8,7 @@ use Rattle.std.proofs.lemmas.Slice.Eq.{bytes_eq-Decides}
 use Rattle.std.proofs.lemmas.Grind.{get_or-set_at}
 use Rattle.sv_tree.specs.declared.token.Token.{Token}
 use Rattle.sv_tree.specs.Names.{IsAbsent, EachOnce}
-use Rattle.sv_tree.specs.NameLaws.{same_id, slice_get-get_or}
+use Rattle.sv_tree.specs.NameLaws.{same_id, slice_get-get_or, slice_get-within, get_or-slice_get}
 use Rattle.sv_tree.specs.Tokens.{AreNamed}
 use Rattle.sv_pp.specs.Directive.{Text}
 use Rattle.sv_pp.specs.Reading.{Macros, no_macros, with_macro}
@@ -66,3 +66,19 @@ module _ (names : List Text) (table : List (Option (List Token))) (macros : Macr
     absent = λ name away. absent_at name away (bytes_eq name (get_or names i [])) refl;
     named = λ name new h. named_at named name new (bytes_eq name (get_or names i [])) h;
   }
+
+-- what stands at a name's place is the text of its macro
+module _ {A : Type 0} (f : A → List Token) where
+  at_place : (bodies : List (Option A)) (i : ℕ) (b : A) → slice_get bodies i ≡ Some (Some b) → get_or (map (option_map f) bodies) i None ≡ Some (f b)
+  at_place [] i b h = cc
+  at_place (x ∷ xs) zero b h = by x h
+    where
+      by : (x : Option A) → Some x ≡ Some (Some b) → option_map f x ≡ Some (f b)
+      by None e = cc
+      by (Some y) e = cc
+  at_place (x ∷ xs) (suc i) b h = at_place xs i b h
+
+  pub found_body : (names : List Text) (bodies : List (Option A)) (shown : List (Option (List Token))) (macros : Macros) (i : ℕ) (name : Text) (b : A) → Keeps names shown macros → map (option_map f) bodies ≡ shown → slice_get names i ≡ Some name
+      → slice_get bodies i ≡ Some (Some b) → Some (f b) ≡ macros name
+  found_body names bodies shown macros i name b kept is named found =
+      sym (at_place bodies i b found) ∙ ap (λ ts. get_or ts i None) is ∙ kept.same i (slice_get-within names i name named) ∙ ap macros (get_or-slice_get names i name named)

@@ -1,6 +1,6 @@
 //! The active tokens of files.
 
-ghost use Rattle.std.specs.Prelude.{◌≡◌, ◌<◌, ◌≤◌, ◌+◌, length, map, IfOk, OnOk, IfErr};
+ghost use Rattle.std.specs.Prelude.{◌≡◌, ◌<◌, ◌≤◌, ◌+◌, length, map, IfOk, OnOk, IfErr, MatchResult, ◌⊎◌};
 ghost use Rattle.sv_tree.specs.Tokens.{AreNamed};
 ghost use Rattle.sv_pp.specs.Active as spec;
 ghost use Rattle.sv_pp.specs.Reading.{Macros};
@@ -86,7 +86,10 @@ fn is_undefinable(names: &Names, name: &Token, rest: &[Token]) -> bool
 }
 
 /// So many tokens are read, and then the directive is faulty.
-fn refuse(going: &mut Going, count: usize, token: &Token) -> Result<usize, PpFault> {
+fn refuse(going: &mut Going, count: usize, token: &Token) -> Result<usize, PpFault>
+    ensures most { going.new.most ≡ going.old.most }
+    ensures fault { MatchResult result (λ _. ⊥) (λ f. ((f ≡ PpFault.TooMany) × (going.old.most < going.old.count + count)) ⊎ ((f ≡ PpFault.Directive token.now.at token.now.name) × (going.old.count + count ≤ going.old.most))) }
+{
     if let Err(fault) = going.read(count) {
         return Err(fault);
     }
