@@ -1,6 +1,6 @@
 //! The active tokens of files.
 
-ghost use Rattle.std.specs.Prelude.{◌≡◌, ◌<◌, ◌≤◌, ◌+◌, length, map, IfOk, OnOk, IfErr, MatchResult, ◌⊎◌};
+ghost use Rattle.std.specs.Prelude.{◌≡◌, ◌<◌, ◌≤◌, ◌+◌, length, map, IfOk, OnOk, IfErr, MatchResult, ◌⊎◌, List, ℕ};
 ghost use Rattle.sv_tree.specs.Tokens.{AreNamed};
 ghost use Rattle.sv_pp.specs.Active as spec;
 ghost use Rattle.sv_pp.specs.Reading.{Macros};
@@ -152,7 +152,10 @@ fn undef(
     going: &mut Going,
     token: &Token,
     rest: &[Token],
-) -> Result<usize, PpFault> {
+) -> Result<usize, PpFault>
+    requires room { (names : List (List ℕ)) × AreNamed names rest.now × (length table.old ≡ length names) }
+    ensures within { IfOk result (λ more. more ≤ length rest.now) }
+{
     let [name, ..] = rest else {
         return refuse(going, 1, token);
     };
@@ -174,7 +177,10 @@ fn open_if(
     wanted: bool,
     token: &Token,
     rest: &[Token],
-) -> Result<usize, PpFault> {
+) -> Result<usize, PpFault>
+    requires named { AreNamed names.now rest.now }
+    ensures within { IfOk result (λ more. more ≤ length rest.now) }
+{
     let [name, ..] = rest else {
         return refuse(going, 1, token);
     };
@@ -198,7 +204,9 @@ fn open_if(
 }
 
 /// Turns to the other branch of the innermost.
-fn turn(branches: &mut Vec<Open>, going: &mut Going, token: &Token) -> Result<usize, PpFault> {
+fn turn(branches: &mut Vec<Open>, going: &mut Going, token: &Token) -> Result<usize, PpFault>
+    ensures { IfOk result (λ more. more ≡ 0) }
+{
     if let Err(fault) = going.read(1) {
         return Err(fault);
     }
@@ -221,7 +229,9 @@ fn turn(branches: &mut Vec<Open>, going: &mut Going, token: &Token) -> Result<us
 }
 
 /// Closes the innermost branch.
-fn close(branches: &mut Vec<Open>, going: &mut Going, token: &Token) -> Result<usize, PpFault> {
+fn close(branches: &mut Vec<Open>, going: &mut Going, token: &Token) -> Result<usize, PpFault>
+    ensures { IfOk result (λ more. more ≡ 0) }
+{
     if let Err(fault) = going.read(1) {
         return Err(fault);
     }
@@ -232,7 +242,9 @@ fn close(branches: &mut Vec<Open>, going: &mut Going, token: &Token) -> Result<u
 }
 
 /// Reads the token and so many after it, none of them active.
-fn skip(going: &mut Going, more: usize) -> Result<usize, PpFault> {
+fn skip(going: &mut Going, more: usize) -> Result<usize, PpFault>
+    ensures { IfOk result (λ n. n ≡ more) }
+{
     if let Err(fault) = going.read(1) {
         return Err(fault);
     }
@@ -249,7 +261,11 @@ fn skip_directive(
     going: &mut Going,
     token: &Token,
     rest: &[Token],
-) -> Result<usize, PpFault> {
+) -> Result<usize, PpFault>
+    requires token { token.now.name.0 < length names.now }
+    requires named { AreNamed names.now rest.now }
+    ensures within { IfOk result (λ more. more ≤ length rest.now) }
+{
     match role_of(named_by(names, token)) {
         Role::Ifdef => open_if(names, place, going, true, token, rest),
         Role::Ifndef => open_if(names, place, going, false, token, rest),
