@@ -97,6 +97,7 @@ fn read_body(
     levels: u32,
     body: &[Token],
 ) -> Result<(), PpFault>
+    requires few { going.old.count ≤ going.old.most }
     requires named { AreNamed names.now body.now }
     requires kept { (macros : Macros) × Keeps names.now table.now macros }
     ensures most { going.new.most ≡ going.old.most }

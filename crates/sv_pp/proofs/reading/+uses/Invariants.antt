@@ -19,7 +19,7 @@ decreases-read_body-loop-rest l = length l.rest
 
 abbrev pub invariant-read_body-loop-rest : goal.invariant-read_body-loop-rest
 invariant-read_body-loop-rest l =
-    AreNamed l.names l.rest × (l.going.most ≡ l.fn.going.most)
+    AreNamed l.names l.rest × (l.going.most ≡ l.fn.going.most) × (l.going.count ≤ l.going.most)
     × ((macros : Macros) → Keeps l.names l.table macros
     → joined (so_far l.going.tokens.items l.going.count) (each_reading (inner_reading l.names l.at (use_reading l.names macros l.at l.levels)) l.rest)
     ≡ joined (so_far l.fn.going.tokens.items l.fn.going.count) (each_reading (inner_reading l.names l.at (use_reading l.names macros l.at l.levels)) l.body))
