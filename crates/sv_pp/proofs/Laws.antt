@@ -1,13 +1,19 @@
 -- Laws of readings: what is joined, and what stays true of a fault.
-use Rattle.std.specs.Prelude.{◌≡◌, ◌≤◌, ◌<◌, ℕ, zero, suc, ◌+◌, List, [], ◌∷◌, ◌++◌, drop, Option, Some, None}
+use Rattle.std.specs.Prelude.{◌≡◌, ◌≤◌, ◌<◌, ℕ, zero, suc, ◌+◌, ◌-◌, Bool, true, if◌then◌else◌, List, [], ◌∷◌, ◌++◌, length, get_or, take, drop, Option, Some, None, Result, Ok, Err}
 use Rattle.std.proofs.Common.{refl, sym, ap, ◌∙◌, subst, arith, append_assoc, append-nil}
+use Rattle.std.proofs.lemmas.List.{take_all}
 use Rattle.sv_tree.specs.declared.token.Token.{Token}
+use Rattle.sv_tree.specs.Tokens.{AreNamed}
 use Rattle.sv_pp.specs.declared.fault.PpFault.{PpFault}
 use Rattle.sv_pp.specs.declared.fault.PpFault.TheVariants as fault
-use Rattle.sv_pp.specs.Directive.{Text}
-use Rattle.sv_pp.specs.Reading.{Reading, Macros, joined, joined_by, silent, each_reading}
+use Rattle.sv_pp.specs.declared.directive.Role.TheVariants.{Use}
+use Rattle.sv_pp.specs.Directive.{Text, role_of}
+use Rattle.sv_pp.specs.Reading.{Reading, Macros, joined, joined_by, silent, active, placed, each_reading, inner_reading, inner_use, use_by, use_reading, named_by, is_directive}
 use Rattle.sv_pp.specs.Active.{State, file_reading}
-use Rattle.sv_pp.specs.Answer.{FaultIs, so_far, Went, Stops}
+use Rattle.sv_pp.specs.Answer.{FaultIs, so_far}
+use Rattle.sv_pp.specs.declared.reading.Going.{Going}
+use Rattle.sv_pp.specs.Shown.{read_by, Went, Stops, Reads, Remains}
+use Rattle.vs_base.specs.declared.origin.Origin.{Origin}
 
 abbrev record_of : List Token → ℕ → Option PpFault → Reading
 record_of ts n f = record { tokens = ts; count = n; fault = f }
@@ -60,14 +66,121 @@ passed_over names next (suc left) s (t ∷ ts) = passed_over names next left s t
 joined_nothing : (ts : List Token) (n : ℕ) → joined (so_far ts n) (silent 0) ≡ so_far ts n
 joined_nothing ts n = alike (append-nil ts) (omega arith)
 
--- a token more was read, and what is left comes to the same whole
-pub went_on : (most : ℕ) (before after whole : Reading) (f : Token → Reading) (t : Token) (rest : List Token) → joined before (each_reading f (t ∷ rest)) ≡ whole → Went most before after (f t) → joined after (each_reading f rest) ≡ whole
-went_on most before after whole f t rest is went = ap (λ r. joined r (each_reading f rest)) went.is ∙ joined_assoc before (f t) (each_reading f rest) ∙ is
+-- two parts, one after the other
+pub went_both : (before middle after : Going) (a b : Reading) → Went before middle a → Went middle after b → Went before after (joined a b)
+went_both before middle after a b first second = record {
+  is = second.is ∙ ap (λ r. joined r b) first.is ∙ joined_assoc (read_by before) a b;
+  few = second.few;
+  same_most = second.same_most ∙ first.same_most;
+}
+
+-- a fault in the second part
+pub stops_later : (before middle : Going) (a b : Reading) (f : PpFault) → Went before middle a → Stops middle b f → Stops before (joined a b) f
+stops_later before middle a b f first stops =
+    subst (λ most. FaultIs most f (joined (read_by before) (joined a b))) first.same_most (subst (λ r. FaultIs middle.most f r) (ap (λ r. joined r b) first.is ∙ joined_assoc (read_by before) a b) stops)
+
+pub reads_later : {A : Type 0} (before middle after : Going) (result : Result A PpFault) (a b : Reading) → Went before middle a → Reads middle after result b → Reads before after result (joined a b)
+reads_later before middle after (Ok x) a b first second = went_both before middle after a b first second
+reads_later before middle after (Err f) a b first second = stops_later before middle a b f first second
+
+-- as many tokens more are counted
+pub went_count : (before after : Going) (n : ℕ) → Went before after (silent n) → before.count + n ≤ before.most
+went_count before after n went = omega (arith, ap (λ (r : Reading). r.count) went.is, went.few, went.same_most)
+
+-- ---- what remains to be read
+
+-- at the start the whole
+pub remains_whole : (now : Going) (r : Reading) → now.count ≤ now.most → Remains now now r r
+remains_whole now r few = record { is = refl; few = few; same_most = refl }
+
+-- a part was read
+pub remains_on : (before now after : Going) (a b whole : Reading) → Remains before now (joined a b) whole → Went now after a → Remains before after b whole
+remains_on before now after a b whole so went = record {
+  is = ap (λ r. joined r b) went.is ∙ joined_assoc (read_by now) a b ∙ so.is;
+  few = went.few;
+  same_most = went.same_most ∙ so.same_most;
+}
+
+-- a part's fault is that of the whole
+pub remains_wrong : (before now : Going) (a b whole : Reading) (f : PpFault) → Remains before now (joined a b) whole → Stops now a f → Stops before whole f
+remains_wrong before now a b whole f so stops =
+    subst (λ most. FaultIs most f (joined (read_by before) whole)) so.same_most (subst (λ r. FaultIs now.most f r) (joined_assoc (read_by now) a b ∙ so.is) (fault_stays now.most f (joined (read_by now) a) b stops))
 
 -- nothing is left: the whole was read
-pub went_end : (most : ℕ) (before r : Reading) (ts : List Token) (n : ℕ) → joined (so_far ts n) (silent 0) ≡ joined before r → n ≤ most → Went most before (so_far ts n) r
-went_end most before r ts n is few = record { is = sym (joined_nothing ts n) ∙ is; few = few }
+pub remains_none : (before now : Going) (whole : Reading) → Remains before now (silent 0) whole → Went before now whole
+remains_none before now whole so = record { is = sym (joined_nothing now.tokens.items now.count) ∙ so.is; few = so.few; same_most = so.same_most }
 
--- a token's fault is that of the whole
-pub went_wrong : (most : ℕ) (before whole : Reading) (f : Token → Reading) (t : Token) (rest : List Token) (e : PpFault) → joined before (each_reading f (t ∷ rest)) ≡ whole → Stops most before (f t) e → FaultIs most e whole
-went_wrong most before whole f t rest e is stops = subst (λ r. FaultIs most e r) (joined_assoc before (f t) (each_reading f rest) ∙ is) (fault_stays most e (joined before (f t)) (each_reading f rest) stops)
+-- what is left is the whole of what follows
+pub remains_further : (before now after : Going) (left rest whole : Reading) → Remains before now rest whole → Remains now after left rest → Remains before after left whole
+remains_further before now after left rest whole so further = record { is = further.is ∙ so.is; few = further.few; same_most = further.same_most ∙ so.same_most }
+
+-- ---- lists that are read token by token
+
+-- the first element and those after it
+pub split_first : {A : Type 0} (xs : List A) (d : A) → 1 ≤ length xs → xs ≡ get_or xs 0 d ∷ take (length xs - 1) (drop 1 xs)
+split_first [] d some = absurd (omega arith)
+split_first (x ∷ xs) d some = ap (λ ys. x ∷ ys) (sym (take_all (length (x ∷ xs) - 1) xs (omega arith)))
+
+pub rest_named : (names : List Text) (ts : List Token) → 1 ≤ length ts → AreNamed names ts → AreNamed names (take (length ts - 1) (drop 1 ts))
+rest_named names [] some named = absurd (omega arith)
+rest_named names (t ∷ ts) some named = subst (AreNamed names) (sym (take_all (length (t ∷ ts) - 1) ts (omega arith))) named.1
+
+-- of a list of at least one token
+module _ (rest : List Token) (d : Token) (some : 1 ≤ length rest) where
+  pub first_named : (names : List Text) → AreNamed names rest → (get_or rest 0 d).name.0 < length names
+  first_named names named = (subst (AreNamed names) (split_first rest d some) named).0
+
+  module _ (f : Token → Reading) (before now : Going) (whole : Reading) (so : Remains before now (each_reading f rest) whole) where
+    parts : Remains before now (joined (f (get_or rest 0 d)) (each_reading f (take (length rest - 1) (drop 1 rest)))) whole
+    parts = subst (λ ts. Remains before now (each_reading f ts) whole) (split_first rest d some) so
+
+    pub token_read : (after : Going) → Went now after (f (get_or rest 0 d)) → Remains before after (each_reading f (take (length rest - 1) (drop 1 rest))) whole
+    token_read after went = remains_on before now after (f (get_or rest 0 d)) (each_reading f (take (length rest - 1) (drop 1 rest))) whole parts went
+
+    pub token_wrong : (e : PpFault) → Stops now (f (get_or rest 0 d)) e → Stops before whole e
+    token_wrong e stops = remains_wrong before now (f (get_or rest 0 d)) (each_reading f (take (length rest - 1) (drop 1 rest))) whole e parts stops
+
+-- no token is left
+pub all_read : (f : Token → Reading) (before now : Going) (rest : List Token) (whole : Reading) → length rest < 1 → Remains before now (each_reading f rest) whole → Went before now whole
+all_read f before now rest whole none so = remains_none before now whole (subst (λ ts. Remains before now (each_reading f ts) whole) (empty rest none) so)
+  where
+    empty : (xs : List Token) → length xs < 1 → xs ≡ []
+    empty [] none = refl
+    empty (x ∷ xs) none = absurd (omega arith)
+
+-- ---- uses of macros
+
+-- a use reads at least its own token
+pub use_count : (names : List Text) (macros : Macros) (at : Origin) (levels : ℕ) (t : Token) → 1 ≤ (use_reading names macros at levels t).count
+use_count names macros at zero t = omega arith
+use_count names macros at (suc levels) t = by (macros (named_by names t))
+  where
+    by : (body : Option (List Token)) → 1 ≤ (use_by at t (each_reading (inner_reading names at (use_reading names macros at levels))) body).count
+    by None = omega arith
+    by (Some body) = omega arith
+
+-- a use inside too many others
+pub too_deep : (names : List Text) (macros : Macros) (at : Origin) (levels : ℕ) (t : Token) (before after : Going) → levels ≡ 0 → Went before after (silent 1) → Stops before (use_reading names macros at levels t) (fault.MacroDepth at)
+too_deep names macros at levels t before after none went = rw none (refl, went_count before after 1 went)
+
+-- a use by what its macro stands for
+pub use_at : (names : List Text) (macros : Macros) (at : Origin) (levels : ℕ) (t : Token) (body : Option (List Token)) → 0 < levels → body ≡ macros (named_by names t)
+    → use_reading names macros at levels t ≡ use_by at t (each_reading (inner_reading names at (use_reading names macros at (levels - 1)))) body
+use_at names macros at zero t body some is = absurd (omega arith)
+use_at names macros at (suc levels) t body some is =
+    let less : levels ≡ suc levels - 1 = omega arith in
+    ap (use_by at t (each_reading (inner_reading names at (use_reading names macros at levels)))) (sym is) ∙ ap (λ k. use_by at t (each_reading (inner_reading names at (use_reading names macros at k))) body) less
+
+-- a use of a macro that is not defined
+pub not_defined : (names : List Text) (macros : Macros) (at : Origin) (levels : ℕ) (t : Token) (before after : Going) → 0 < levels → None ≡ macros (named_by names t) → Went before after (silent 1) → Stops before (use_reading names macros at levels t) (fault.UnknownMacro at t.name)
+not_defined names macros at levels t before after some is went = rw (use_at names macros at levels t None some is) (refl, went_count before after 1 went)
+
+-- a macro's text is read after its is_use
+pub text_read : {A : Type 0} (names : List Text) (macros : Macros) (at : Origin) (levels : ℕ) (t : Token) (body : List Token) (before middle after : Going) (result : Result A PpFault) → 0 < levels → Some body ≡ macros (named_by names t) → Went before middle (silent 1)
+    → Reads middle after result (each_reading (inner_reading names at (use_reading names macros at (levels - 1))) body) → Reads before after result (use_reading names macros at levels t)
+text_read names macros at levels t body before middle after result some is went reads =
+    subst (λ r. Reads before after result r) (sym (use_at names macros at levels t (Some body) some is)) (reads_later before middle after result (silent 1) (each_reading (inner_reading names at (use_reading names macros at (levels - 1))) body) went reads)
+
+-- the use of a macro in a macro's text
+pub inner_is_use : (names : List Text) (at : Origin) (inner : Token → Reading) (t : Token) → is_directive t.kind ≡ true → role_of (named_by names t) ≡ Use → inner_reading names at inner t ≡ inner t
+inner_is_use names at inner t directive is_use = ap (λ b. if b then inner_use at inner (role_of (named_by names t)) t else active (placed at t)) directive ∙ ap (λ r. inner_use at inner r t) is_use

@@ -20,8 +20,9 @@ get_or-filled (suc n) zero d = refl
 get_or-filled (suc n) (suc i) d = get_or-filled n i d
 
 -- where nothing is defined, each place is empty
-pub keeps_none : (names : List Text) → Keeps names (replicate (length names) None) no_macros
-keeps_none names = record {
+pub keeps_none : (names : List Text) → EachOnce names → Keeps names (replicate (length names) None) no_macros
+keeps_none names once = record {
+  once = once;
   room = length-replicate (length names) None;
   same = λ i h. get_or-filled (length names) i None;
   absent = λ name h. refl;
@@ -34,19 +35,19 @@ module _ {A : Type 0} (f : A → List Token) where
   map-filled (suc n) = ap (λ ts. None ∷ ts) (map-filled n)
 
   -- a table of empty places
-  pub keeps_filled : (names : List Text) (bodies : List (Option A)) → bodies ≡ replicate (length bodies) None → length bodies ≡ length names → Keeps names (map (option_map f) bodies) no_macros
-  keeps_filled names bodies empty room =
+  pub keeps_filled : (names : List Text) (bodies : List (Option A)) → EachOnce names → bodies ≡ replicate (length bodies) None → length bodies ≡ length names → Keeps names (map (option_map f) bodies) no_macros
+  keeps_filled names bodies once empty room =
       let is : map (option_map f) bodies ≡ replicate (length names) None = ap (map (option_map f)) (empty ∙ ap (λ n. replicate n None) room) ∙ map-filled (length names) in
-      rw is (keeps_none names)
+      rw is (keeps_none names once)
 
   -- a table with another text at a place
   pub shown_set : (bodies : List (Option A)) (shown : List (Option (List Token))) (i : ℕ) (a : Option A) → map (option_map f) bodies ≡ shown → map (option_map f) (set bodies i a) ≡ set shown i (option_map f a)
   shown_set bodies shown i a is = map-set (option_map f) bodies i a ∙ ap (λ ts. set ts i (option_map f a)) is
 
 -- the macro of the name at a place gets another text, or none
-module _ (names : List Text) (table : List (Option (List Token))) (macros : Macros) (i : ℕ) (body : Option (List Token)) (once : EachOnce names) (kept : Keeps names table macros) (inside : i < length names) where
+module _ (names : List Text) (table : List (Option (List Token))) (macros : Macros) (i : ℕ) (body : Option (List Token)) (kept : Keeps names table macros) (inside : i < length names) where
   same_at : (j : ℕ) → j < length names → (b : Bool) → bytes_eq (get_or names j []) (get_or names i []) ≡ b → get_or (set table i body) j None ≡ (if b then body else macros (get_or names j []))
-  same_at j h true e = get_or-set_at table i j body None (same_id names j i once h inside ((bytes_eq-Decides (get_or names j []) (get_or names i [])).0 e)) (omega (arith, kept.room, inside))
+  same_at j h true e = get_or-set_at table i j body None (same_id names j i kept.once h inside ((bytes_eq-Decides (get_or names j []) (get_or names i [])).0 e)) (omega (arith, kept.room, inside))
   same_at j h false e =
       get_or-set_other table i j body None (λ is. true≢false (sym ((bytes_eq-Decides (get_or names j []) (get_or names i [])).1 (ap (λ k. get_or names k []) is)) ∙ e))
       ∙ kept.same j h
@@ -61,6 +62,7 @@ module _ (names : List Text) (table : List (Option (List Token))) (macros : Macr
 
   pub keeps_set : ((new : List Token) → body ≡ Some new → AreNamed names new) → Keeps names (set table i body) (with_macro macros (get_or names i []) body)
   keeps_set named = record {
+    once = kept.once;
     room = length-set table i body ∙ kept.room;
     same = λ j h. same_at j h (bytes_eq (get_or names j []) (get_or names i [])) refl;
     absent = λ name away. absent_at name away (bytes_eq name (get_or names i [])) refl;

@@ -27,12 +27,3 @@ FaultIs most f r = (r.fault ≡ Some f) × (r.count ≤ most)
 -- what was read so far, without a fault
 abbrev pub so_far : List Token → ℕ → Reading
 so_far tokens count = record { tokens = tokens; count = count; fault = None }
-
--- it was read to its end after what was read before, within the limit
-pub record Went (most : ℕ) (before after r : Reading) : Type 0 where
-  pub is : after ≡ joined before r
-  pub few : after.count ≤ most
-
--- its fault is the answer, after what was read before
-abbrev pub Stops : ℕ → Reading → Reading → PpFault → Type 0
-Stops most before r f = FaultIs most f (joined before r)

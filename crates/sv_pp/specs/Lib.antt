@@ -3,3 +3,4 @@ pub mod Reading
 pub mod Active
 pub mod Answer
 pub mod Table
+pub mod Shown

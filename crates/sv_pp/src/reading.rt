@@ -1,10 +1,10 @@
 //! What has been read so far, and the reading of a macro's use.
 
-ghost use Rattle.std.specs.Prelude.{◌≡◌, ◌<◌, ◌≤◌, ◌+◌, ◌∷◌, ◌++◌, [], length, OnOk, IfErr, MatchResult, ◌⊎◌};
+ghost use Rattle.std.specs.Prelude.{◌≡◌, ◌<◌, ◌≤◌, length, OnOk, IfErr};
 ghost use Rattle.sv_tree.specs.Tokens.{AreNamed};
 ghost use Rattle.sv_pp.specs.Reading as spec;
-ghost use Rattle.sv_pp.specs.Reading.{Macros};
-ghost use Rattle.sv_pp.specs.Answer.{so_far, Went, Stops};
+ghost use Rattle.sv_pp.specs.Reading.{Macros, Reading};
+ghost use Rattle.sv_pp.specs.Shown.{Went, Stops, Reads};
 ghost use Rattle.sv_pp.specs.Table.{Keeps};
 
 use crate::directive::{Role, role_of, without_backquote};
@@ -24,10 +24,8 @@ pub struct Going {
 impl Going {
     /// So many tokens are read.
     pub fn read(&mut self, count: usize) -> Result<(), PpFault>
-        ensures most { self.new.most ≡ self.old.most }
-        ensures tokens { self.new.tokens.items ≡ self.old.tokens.items }
-        ensures count { OnOk result ((self.new.count ≡ self.old.count + count) × (self.new.count ≤ self.old.most)) }
-        ensures fault { IfErr result (λ f. (f ≡ PpFault.TooMany) × (self.old.most < self.old.count + count)) }
+        ensures went { OnOk result (Went self.old self.new (spec.silent count)) }
+        ensures stops { IfErr result (λ f. (r : Reading) → count ≤ r.count → Stops self.old r f) }
     {
         if self.count > self.most || count > self.most - self.count {
             return Err(PpFault::TooMany);
@@ -38,9 +36,7 @@ impl Going {
 
     /// A token is read and active.
     pub fn give(&mut self, token: Token) -> Result<(), PpFault>
-        ensures most { self.new.most ≡ self.old.most }
-        ensures given { OnOk result ((self.new.tokens.items ≡ self.old.tokens.items ++ token ∷ []) × (self.new.count ≡ self.old.count + 1) × (self.new.count ≤ self.old.most)) }
-        ensures fault { IfErr result (λ f. (f ≡ PpFault.NoMemory) ⊎ ((f ≡ PpFault.TooMany) × (self.old.most < self.old.count + 1))) }
+        ensures { Reads self.old self.new result (spec.active token) }
     {
         if let Err(fault) = self.read(1) {
             return Err(fault);
@@ -72,8 +68,7 @@ pub fn read_use(
 ) -> Result<(), PpFault>
     requires named { token.now.name.0 < length names.now }
     requires kept { (macros : Macros) × Keeps names.now table.now macros }
-    ensures most { going.new.most ≡ going.old.most }
-    ensures reads { (macros : Macros) → Keeps names.now table.now macros → MatchResult result (λ _. Went going.old.most (so_far going.old.tokens.items going.old.count) (so_far going.new.tokens.items going.new.count) (spec.use_reading names.now macros at levels token.now)) (λ f. Stops going.old.most (so_far going.old.tokens.items going.old.count) (spec.use_reading names.now macros at levels token.now) f) }
+    ensures { (macros : Macros) → Keeps names.now table.now macros → Reads going.old going.new result (spec.use_reading names.now macros at levels token.now) }
 {
     if let Err(fault) = going.read(1) {
         return Err(fault);
@@ -100,8 +95,7 @@ fn read_body(
     requires few { going.old.count ≤ going.old.most }
     requires named { AreNamed names.now body.now }
     requires kept { (macros : Macros) × Keeps names.now table.now macros }
-    ensures most { going.new.most ≡ going.old.most }
-    ensures reads { (macros : Macros) → Keeps names.now table.now macros → MatchResult result (λ _. Went going.old.most (so_far going.old.tokens.items going.old.count) (so_far going.new.tokens.items going.new.count) (spec.each_reading (spec.inner_reading names.now at (spec.use_reading names.now macros at levels)) body.now)) (λ f. Stops going.old.most (so_far going.old.tokens.items going.old.count) (spec.each_reading (spec.inner_reading names.now at (spec.use_reading names.now macros at levels)) body.now) f) }
+    ensures { (macros : Macros) → Keeps names.now table.now macros → Reads going.old going.new result (spec.each_reading (spec.inner_reading names.now at (spec.use_reading names.now macros at levels)) body.now) }
 {
     let mut rest = body;
     while let [token, more @ ..] = rest {
@@ -125,8 +119,7 @@ fn read_inner(
 ) -> Result<(), PpFault>
     requires named { token.now.name.0 < length names.now }
     requires kept { (macros : Macros) × Keeps names.now table.now macros }
-    ensures most { going.new.most ≡ going.old.most }
-    ensures reads { (macros : Macros) → Keeps names.now table.now macros → MatchResult result (λ _. Went going.old.most (so_far going.old.tokens.items going.old.count) (so_far going.new.tokens.items going.new.count) (spec.inner_reading names.now at (spec.use_reading names.now macros at levels) token.now)) (λ f. Stops going.old.most (so_far going.old.tokens.items going.old.count) (spec.inner_reading names.now at (spec.use_reading names.now macros at levels) token.now) f) }
+    ensures { (macros : Macros) → Keeps names.now table.now macros → Reads going.old going.new result (spec.inner_reading names.now at (spec.use_reading names.now macros at levels) token.now) }
 {
     if token.kind != TokenKind::Directive {
         return going.give(Token {

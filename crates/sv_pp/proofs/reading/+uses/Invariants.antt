@@ -1,7 +1,7 @@
-use Rattle.std.proofs.Common.{ℕ, ◌≡◌, ◌≤◌, ◌+◌, ◌*◌, length}
+use Rattle.std.proofs.Common.{ℕ, ◌*◌, ◌+◌, length}
 use Rattle.sv_tree.specs.Tokens.{AreNamed}
-use Rattle.sv_pp.specs.Reading.{Macros, joined, each_reading, inner_reading, use_reading}
-use Rattle.sv_pp.specs.Answer.{so_far}
+use Rattle.sv_pp.specs.Reading.{Macros, each_reading, inner_reading, use_reading}
+use Rattle.sv_pp.specs.Shown.{Remains}
 use Rattle.sv_pp.specs.Table.{Keeps}
 use Rattle.sv_pp.proofs.reading.+uses.Given as goal
 
@@ -19,7 +19,6 @@ decreases-read_body-loop-rest l = length l.rest
 
 abbrev pub invariant-read_body-loop-rest : goal.invariant-read_body-loop-rest
 invariant-read_body-loop-rest l =
-    AreNamed l.names l.rest × (l.going.most ≡ l.fn.going.most) × (l.going.count ≤ l.going.most)
+    AreNamed l.names l.rest
     × ((macros : Macros) → Keeps l.names l.table macros
-    → joined (so_far l.going.tokens.items l.going.count) (each_reading (inner_reading l.names l.at (use_reading l.names macros l.at l.levels)) l.rest)
-    ≡ joined (so_far l.fn.going.tokens.items l.fn.going.count) (each_reading (inner_reading l.names l.at (use_reading l.names macros l.at l.levels)) l.body))
+    → Remains l.fn.going l.going (each_reading (inner_reading l.names l.at (use_reading l.names macros l.at l.levels)) l.rest) (each_reading (inner_reading l.names l.at (use_reading l.names macros l.at l.levels)) l.body))
