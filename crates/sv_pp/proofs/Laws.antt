@@ -140,18 +140,19 @@ module _ (rest : List Token) (d : Token) (some : 1 ≤ length rest) where
     pub token_wrong : (e : PpFault) → Stops now (f (get_or rest 0 d)) e → Stops before whole e
     token_wrong e stops = remains_wrong before now (f (get_or rest 0 d)) (each_reading f (take (length rest - 1) (drop 1 rest))) whole e parts stops
 
+pub nothing_left : (ts : List Token) → length ts < 1 → ts ≡ []
+nothing_left [] none = refl
+nothing_left (t ∷ ts) none = absurd (omega arith)
+
 -- no token is left
 pub all_read : (f : Token → Reading) (before now : Going) (rest : List Token) (whole : Reading) → length rest < 1 → Remains before now (each_reading f rest) whole → Went before now whole
-all_read f before now rest whole none so = remains_none before now whole (subst (λ ts. Remains before now (each_reading f ts) whole) (empty rest none) so)
-  where
-    empty : (xs : List Token) → length xs < 1 → xs ≡ []
-    empty [] none = refl
-    empty (x ∷ xs) none = absurd (omega arith)
+all_read f before now rest whole none so = remains_none before now whole (subst (λ ts. Remains before now (each_reading f ts) whole) (nothing_left rest none) so)
 
 -- ---- uses of macros
 
 -- a use reads at least its own token
 pub use_count : (names : List Text) (macros : Macros) (at : Origin) (levels : ℕ) (t : Token) → 1 ≤ (use_reading names macros at levels t).count
+unfolding use_reading
 use_count names macros at zero t = omega arith
 use_count names macros at (suc levels) t = by (macros (named_by names t))
   where
@@ -161,11 +162,13 @@ use_count names macros at (suc levels) t = by (macros (named_by names t))
 
 -- a use inside too many others
 pub too_deep : (names : List Text) (macros : Macros) (at : Origin) (levels : ℕ) (t : Token) (before after : Going) → levels ≡ 0 → Went before after (silent 1) → Stops before (use_reading names macros at levels t) (fault.MacroDepth at)
+unfolding use_reading
 too_deep names macros at levels t before after none went = rw none (refl, went_count before after 1 went)
 
 -- a use by what its macro stands for
 pub use_at : (names : List Text) (macros : Macros) (at : Origin) (levels : ℕ) (t : Token) (body : Option (List Token)) → 0 < levels → body ≡ macros (named_by names t)
     → use_reading names macros at levels t ≡ use_by at t (each_reading (inner_reading names at (use_reading names macros at (levels - 1)))) body
+unfolding use_reading
 use_at names macros at zero t body some is = absurd (omega arith)
 use_at names macros at (suc levels) t body some is =
     let less : levels ≡ suc levels - 1 = omega arith in

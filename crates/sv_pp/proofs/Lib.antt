@@ -1,3 +1,5 @@
 pub mod Examples
 pub mod Laws
 pub mod Tables
+pub mod Places
+pub mod Files

@@ -78,9 +78,16 @@ define_step names s t (name ∷ rest) =
     then (if is_undefinable names name rest then faulty 1 (fault.Directive t.at t.name) s else define_as names s name rest (line_length t.at.line rest))
     else faulty 0 (fault.Directive t.at t.name) s
 
+-- a directive that wants a name, which may stand on a later line
+abbrev pub named_step : State → Token → (Token → Step) → List Token → Step
+named_step s t with_name [] = faulty 0 (fault.Directive t.at t.name) s
+named_step s t with_name (name ∷ rest) = if is_name name.kind then with_name name else faulty 0 (fault.Directive t.at t.name) s
+
+abbrev pub undef_as : List Text → State → Token → Step
+undef_as names s name = quiet 1 (with_body names s name None)
+
 abbrev pub undef_step : List Text → State → Token → List Token → Step
-undef_step names s t [] = faulty 0 (fault.Directive t.at t.name) s
-undef_step names s t (name ∷ rest) = if is_name name.kind then quiet 1 (with_body names s name None) else faulty 0 (fault.Directive t.at t.name) s
+undef_step names s t rest = named_step s t (undef_as names s) rest
 
 -- ---- branches (22.6)
 
@@ -91,10 +98,11 @@ abbrev pub is_defined : List Text → State → Token → Bool
 is_defined names s name = is_some (s.macros (text_of names name))
 
 -- `ifdef` takes its first branch where the name is defined, `ifndef` where it is not
+abbrev pub open_as : List Text → (Bool → Bool) → State → Token → Token → Step
+open_as names test s t name = quiet 1 (opened s (record { at = t.at; taken = test (is_defined names s name); is_else = false }))
+
 abbrev pub if_step : List Text → (Bool → Bool) → State → Token → List Token → Step
-if_step names test s t [] = faulty 0 (fault.Directive t.at t.name) s
-if_step names test s t (name ∷ rest) =
-    if is_name name.kind then quiet 1 (opened s (record { at = t.at; taken = test (is_defined names s name); is_else = false })) else faulty 0 (fault.Directive t.at t.name) s
+if_step names test s t rest = named_step s t (open_as names test s t) rest
 
 abbrev pub same : Bool → Bool
 same b = b
@@ -122,6 +130,10 @@ skipped_step names s Else t rest = else_by s.branches s t
 skipped_step names s Endif t rest = endif_by s.branches s t
 skipped_step names s _ t rest = quiet 0 s
 
+-- the use of a macro
+abbrev pub use_step : List Text → State → Token → Step
+use_step names s t = record { reading = use_reading names s.macros t.at most_levels t; more = 0; after = s }
+
 abbrev pub directive_step : List Text → State → Role → Token → List Token → Step
 directive_step names s Define t rest = define_step names s t rest
 directive_step names s Undef t rest = undef_step names s t rest
@@ -131,7 +143,7 @@ directive_step names s Else t rest = else_by s.branches s t
 directive_step names s Endif t rest = endif_by s.branches s t
 directive_step names s Ignored t rest = quiet (line_length t.at.line rest) s
 directive_step names s Refused t rest = faulty 0 (fault.Directive t.at t.name) s
-directive_step names s Use t rest = record { reading = use_reading names s.macros t.at most_levels t; more = 0; after = s }
+directive_step names s Use t rest = use_step names s t
 
 abbrev pub plain_step : State → Token → Step
 plain_step s t = record { reading = if is_active s then active t else silent 1; more = 0; after = s }

@@ -95,6 +95,6 @@ use_by at t reading None = stopped 1 (UnknownMacro at t.name)
 use_by at t reading (Some body) = joined (silent 1) (reading body)
 
 -- a use where macros may still nest so deep: its text is read in its stead, at its place
-abbrev pub use_reading : List Text → Macros → Origin → ℕ → Token → Reading
+unfoldable pub use_reading : List Text → Macros → Origin → ℕ → Token → Reading
 use_reading names macros at zero t = stopped 1 (MacroDepth at)
 use_reading names macros at (suc levels) t = use_by at t (each_reading (inner_reading names at (use_reading names macros at levels))) (macros (named_by names t))

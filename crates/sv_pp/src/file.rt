@@ -1,10 +1,14 @@
 //! The active tokens of files.
 
-ghost use Rattle.std.specs.Prelude.{◌≡◌, ◌<◌, ◌≤◌, ◌+◌, length, map, IfOk, OnOk, IfErr, MatchResult, ◌⊎◌, List, ℕ};
+ghost use Rattle.std.specs.Prelude.{◌≡◌, ◌<◌, ◌≤◌, ◌+◌, length, drop, map, IfOk, IfErr, MatchResult, List};
+ghost use Rattle.std.specs.List.{list_all};
 ghost use Rattle.sv_tree.specs.Tokens.{AreNamed};
 ghost use Rattle.sv_pp.specs.Active as spec;
-ghost use Rattle.sv_pp.specs.Reading.{Macros};
-ghost use Rattle.sv_pp.specs.Table.{Keeps};
+ghost use Rattle.sv_pp.specs.Active.{State, Branch};
+ghost use Rattle.sv_pp.specs.Reading.{Macros, silent, stopped};
+ghost use Rattle.sv_pp.specs.Reading as said;
+ghost use Rattle.sv_pp.specs.Directive.{role_of};
+ghost use Rattle.sv_pp.specs.Shown.{Stacked, Shows, Went, Stops, Takes, ReadsFile, test_of};
 ghost use Rattle.sv_pp.specs.Answer.{AllNamed, ReadsAs, FaultIs};
 
 use crate::directive::{Role, role_of};
@@ -37,11 +41,13 @@ pub struct Place {
 }
 
 /// Whether tokens are active here.
-fn is_active(branches: &[Open]) -> bool {
+fn is_active(branches: &[Open]) -> bool
+    ensures { (bs : List Branch) → Stacked branches.now bs → result ≡ list_all spec.is_taken bs }
+{
     let [.., last] = branches else {
         return true;
     };
-    last.outer && last.taken
+    last.taken && last.outer
 }
 
 /// How many tokens at the front begin on the line.
@@ -59,6 +65,14 @@ fn line_length(line: u32, tokens: &[Token]) -> usize
         rest = more;
     }
     count
+}
+
+/// The tokens after so many.
+fn without_front(tokens: &[Token], count: usize) -> &[Token]
+    requires { count ≤ length tokens.now }
+    ensures { result.now ≡ drop count tokens.now }
+{
+    &tokens[count..]
 }
 
 /// Whether `(` follows the name in the next column.
@@ -87,8 +101,7 @@ fn is_undefinable(names: &Names, name: &Token, rest: &[Token]) -> bool
 
 /// So many tokens are read, and then the directive is faulty.
 fn refuse(going: &mut Going, count: usize, token: &Token) -> Result<usize, PpFault>
-    ensures most { going.new.most ≡ going.old.most }
-    ensures fault { MatchResult result (λ _. ⊥) (λ f. ((f ≡ PpFault.TooMany) × (going.old.most < going.old.count + count)) ⊎ ((f ≡ PpFault.Directive token.now.at token.now.name) × (going.old.count + count ≤ going.old.most))) }
+    ensures { MatchResult result (λ _. ⊥) (λ f. Stops going.old (stopped count (PpFault.Directive token.now.at token.now.name)) f) }
 {
     if let Err(fault) = going.read(count) {
         return Err(fault);
@@ -99,21 +112,23 @@ fn refuse(going: &mut Going, count: usize, token: &Token) -> Result<usize, PpFau
 /// Reads a definition after its name.
 fn define_as(
     alloc: Global,
-    table: &mut Table,
+    names: &Names,
+    place: &mut Place,
     going: &mut Going,
     line: u32,
     name: &Token,
     rest: &[Token],
 ) -> Result<usize, PpFault>
-    requires name { name.now.name.0 < length table.old }
-    ensures within { IfOk result (λ more. more ≤ length rest.now + 1) }
-    ensures room { OnOk result (length table.new ≡ length table.old) }
+    requires name { name.now.name.0 < length names.now }
+    requires named { AreNamed names.now rest.now }
+    requires shown { (s : State) × Shows names.now place.old s }
+    ensures { Takes names.now place.old going.old place.new going.new result (λ s. spec.define_as names.now s name.now rest.now (spec.line_length line rest.now)) }
 {
     let more = line_length(line, rest);
     if let Err(fault) = going.read(more + 2) {
         return Err(fault);
     }
-    if let Err(fault) = table.define(alloc, name.name, &rest[..more]) {
+    if let Err(fault) = place.table.define(alloc, name.name, &rest[..more]) {
         return Err(fault);
     }
     Ok(more + 1)
@@ -123,16 +138,14 @@ fn define_as(
 fn define(
     alloc: Global,
     names: &Names,
-    table: &mut Table,
+    place: &mut Place,
     going: &mut Going,
     token: &Token,
     rest: &[Token],
 ) -> Result<usize, PpFault>
-    requires token { token.now.name.0 < length names.now }
     requires named { AreNamed names.now rest.now }
-    requires room { length table.old ≡ length names.now }
-    ensures within { IfOk result (λ more. more ≤ length rest.now) }
-    ensures room { OnOk result (length table.new ≡ length table.old) }
+    requires shown { (s : State) × Shows names.now place.old s }
+    ensures { Takes names.now place.old going.old place.new going.new result (λ s. spec.define_step names.now s token.now rest.now) }
 {
     let [name, more @ ..] = rest else {
         return refuse(going, 1, token);
@@ -143,18 +156,20 @@ fn define(
     if is_undefinable(names, name, more) {
         return refuse(going, 2, token);
     }
-    define_as(alloc, table, going, token.at.line, name, more)
+    define_as(alloc, names, place, going, token.at.line, name, more)
 }
 
 /// Reads an `` `undef ``.
 fn undef(
-    table: &mut Table,
+    names: &Names,
+    place: &mut Place,
     going: &mut Going,
     token: &Token,
     rest: &[Token],
 ) -> Result<usize, PpFault>
-    requires room { (names : List (List ℕ)) × AreNamed names rest.now × (length table.old ≡ length names) }
-    ensures within { IfOk result (λ more. more ≤ length rest.now) }
+    requires named { AreNamed names.now rest.now }
+    requires shown { (s : State) × Shows names.now place.old s }
+    ensures { Takes names.now place.old going.old place.new going.new result (λ s. spec.undef_step names.now s token.now rest.now) }
 {
     let [name, ..] = rest else {
         return refuse(going, 1, token);
@@ -165,28 +180,22 @@ fn undef(
     if let Err(fault) = going.read(2) {
         return Err(fault);
     }
-    table.forget(name.name);
+    place.table.forget(name.name);
     Ok(1)
 }
 
 /// Opens a branch that is taken where the name's being defined is as wanted.
-fn open_if(
+fn open_as(
     names: &Names,
     place: &mut Place,
     going: &mut Going,
     wanted: bool,
     token: &Token,
-    rest: &[Token],
+    name: &Token,
 ) -> Result<usize, PpFault>
-    requires named { AreNamed names.now rest.now }
-    ensures within { IfOk result (λ more. more ≤ length rest.now) }
+    requires name { name.now.name.0 < length names.now }
+    ensures { Takes names.now place.old going.old place.new going.new result (λ s. spec.open_as names.now (test_of wanted) s token.now name.now) }
 {
-    let [name, ..] = rest else {
-        return refuse(going, 1, token);
-    };
-    if name.kind != TokenKind::Name {
-        return refuse(going, 1, token);
-    }
     if let Err(fault) = going.read(2) {
         return Err(fault);
     }
@@ -203,14 +212,40 @@ fn open_if(
     Ok(1)
 }
 
+/// Reads an `` `ifdef `` or `` `ifndef ``.
+fn open_if(
+    names: &Names,
+    place: &mut Place,
+    going: &mut Going,
+    wanted: bool,
+    token: &Token,
+    rest: &[Token],
+) -> Result<usize, PpFault>
+    requires named { AreNamed names.now rest.now }
+    ensures { Takes names.now place.old going.old place.new going.new result (λ s. spec.if_step names.now (test_of wanted) s token.now rest.now) }
+{
+    let [name, ..] = rest else {
+        return refuse(going, 1, token);
+    };
+    if name.kind != TokenKind::Name {
+        return refuse(going, 1, token);
+    }
+    open_as(names, place, going, wanted, token, name)
+}
+
 /// Turns to the other branch of the innermost.
-fn turn(branches: &mut Vec<Open>, going: &mut Going, token: &Token) -> Result<usize, PpFault>
-    ensures { IfOk result (λ more. more ≡ 0) }
+fn turn(
+    names: &Names,
+    place: &mut Place,
+    going: &mut Going,
+    token: &Token,
+) -> Result<usize, PpFault>
+    ensures { Takes names.now place.old going.old place.new going.new result (λ s. spec.else_by s.branches s token.now) }
 {
     if let Err(fault) = going.read(1) {
         return Err(fault);
     }
-    let Some(last) = branches.pop() else {
+    let Some(last) = place.branches.pop() else {
         return Err(PpFault::StrayElse(token.at));
     };
     if last.is_else {
@@ -222,20 +257,25 @@ fn turn(branches: &mut Vec<Open>, going: &mut Going, token: &Token) -> Result<us
         taken: !last.taken,
         is_else: true,
     };
-    let Ok(()) = branches.push(turned) else {
+    let Ok(()) = place.branches.push(turned) else {
         return Err(PpFault::NoMemory);
     };
     Ok(0)
 }
 
 /// Closes the innermost branch.
-fn close(branches: &mut Vec<Open>, going: &mut Going, token: &Token) -> Result<usize, PpFault>
-    ensures { IfOk result (λ more. more ≡ 0) }
+fn close(
+    names: &Names,
+    place: &mut Place,
+    going: &mut Going,
+    token: &Token,
+) -> Result<usize, PpFault>
+    ensures { Takes names.now place.old going.old place.new going.new result (λ s. spec.endif_by s.branches s token.now) }
 {
     if let Err(fault) = going.read(1) {
         return Err(fault);
     }
-    let Some(_) = branches.pop() else {
+    let Some(_) = place.branches.pop() else {
         return Err(PpFault::StrayElse(token.at));
     };
     Ok(0)
@@ -243,7 +283,7 @@ fn close(branches: &mut Vec<Open>, going: &mut Going, token: &Token) -> Result<u
 
 /// Reads the token and so many after it, none of them active.
 fn skip(going: &mut Going, more: usize) -> Result<usize, PpFault>
-    ensures { IfOk result (λ n. n ≡ more) }
+    ensures { MatchResult result (λ n. (n ≡ more) × Went going.old going.new (silent (more + 1))) (λ f. Stops going.old (silent (more + 1)) f) }
 {
     if let Err(fault) = going.read(1) {
         return Err(fault);
@@ -264,13 +304,13 @@ fn skip_directive(
 ) -> Result<usize, PpFault>
     requires token { token.now.name.0 < length names.now }
     requires named { AreNamed names.now rest.now }
-    ensures within { IfOk result (λ more. more ≤ length rest.now) }
+    ensures { Takes names.now place.old going.old place.new going.new result (λ s. spec.skipped_step names.now s (role_of (said.named_by names.now token.now)) token.now rest.now) }
 {
     match role_of(named_by(names, token)) {
         Role::Ifdef => open_if(names, place, going, true, token, rest),
         Role::Ifndef => open_if(names, place, going, false, token, rest),
-        Role::Else => turn(&mut place.branches, going, token),
-        Role::Endif => close(&mut place.branches, going, token),
+        Role::Else => turn(names, place, going, token),
+        Role::Endif => close(names, place, going, token),
         _ => skip(going, 0),
     }
 }
@@ -278,11 +318,15 @@ fn skip_directive(
 /// Reads the use of a macro in a file.
 fn use_in_file(
     names: &Names,
-    table: &Table,
+    place: &Place,
     going: &mut Going,
     token: &Token,
-) -> Result<usize, PpFault> {
-    if let Err(fault) = read_use(names, table, going, token.at, MACRO_DEPTH, token) {
+) -> Result<usize, PpFault>
+    requires token { token.now.name.0 < length names.now }
+    requires shown { (s : State) × Shows names.now place.now s }
+    ensures { Takes names.now place.now going.old place.now going.new result (λ s. spec.use_step names.now s token.now) }
+{
+    if let Err(fault) = read_use(names, &place.table, going, token.at, MACRO_DEPTH, token) {
         return Err(fault);
     }
     Ok(0)
@@ -296,23 +340,35 @@ fn read_directive(
     going: &mut Going,
     token: &Token,
     rest: &[Token],
-) -> Result<usize, PpFault> {
+) -> Result<usize, PpFault>
+    requires token { token.now.name.0 < length names.now }
+    requires named { AreNamed names.now rest.now }
+    requires shown { (s : State) × Shows names.now place.old s }
+    ensures { Takes names.now place.old going.old place.new going.new result (λ s. spec.directive_step names.now s (role_of (said.named_by names.now token.now)) token.now rest.now) }
+{
     match role_of(named_by(names, token)) {
-        Role::Define => define(alloc, names, &mut place.table, going, token, rest),
-        Role::Undef => undef(&mut place.table, going, token, rest),
+        Role::Define => define(alloc, names, place, going, token, rest),
+        Role::Undef => undef(names, place, going, token, rest),
         Role::Ifdef => open_if(names, place, going, true, token, rest),
         Role::Ifndef => open_if(names, place, going, false, token, rest),
-        Role::Else => turn(&mut place.branches, going, token),
-        Role::Endif => close(&mut place.branches, going, token),
+        Role::Else => turn(names, place, going, token),
+        Role::Endif => close(names, place, going, token),
         Role::Ignored => skip(going, line_length(token.at.line, rest)),
         Role::Refused => refuse(going, 1, token),
-        Role::Use => use_in_file(names, &place.table, going, token),
+        Role::Use => use_in_file(names, place, going, token),
     }
 }
 
 /// Reads a token that is no directive.
-fn read_plain(branches: &[Open], going: &mut Going, token: &Token) -> Result<usize, PpFault> {
-    if !is_active(branches) {
+fn read_plain(
+    names: &Names,
+    place: &Place,
+    going: &mut Going,
+    token: &Token,
+) -> Result<usize, PpFault>
+    ensures { Takes names.now place.now going.old place.now going.new result (λ s. spec.plain_step s token.now) }
+{
+    if !is_active(&place.branches) {
         return skip(going, 0);
     }
     if let Err(fault) = going.give(*token) {
@@ -329,9 +385,14 @@ fn step(
     going: &mut Going,
     token: &Token,
     rest: &[Token],
-) -> Result<usize, PpFault> {
+) -> Result<usize, PpFault>
+    requires token { token.now.name.0 < length names.now }
+    requires named { AreNamed names.now rest.now }
+    requires shown { (s : State) × Shows names.now place.old s }
+    ensures { Takes names.now place.old going.old place.new going.new result (λ s. spec.step names.now s token.now rest.now) }
+{
     if token.kind != TokenKind::Directive {
-        return read_plain(&place.branches, going, token);
+        return read_plain(names, place, going, token);
     }
     if is_active(&place.branches) {
         return read_directive(alloc, names, place, going, token, rest);
@@ -346,14 +407,19 @@ fn read_file(
     place: &mut Place,
     going: &mut Going,
     tokens: &[Token],
-) -> Result<(), PpFault> {
+) -> Result<(), PpFault>
+    requires few { going.old.count ≤ going.old.most }
+    requires named { AreNamed names.now tokens.now }
+    requires shown { (macros : Macros) × Shows names.now place.old (spec.at_start macros) }
+    ensures { ReadsFile names.now place.old going.old place.new going.new result tokens.now }
+{
     let mut rest = tokens;
     while let [token, after @ ..] = rest {
         let more = match step(alloc, names, place, going, token, after) {
             Ok(more) => more,
             Err(fault) => return Err(fault),
         };
-        rest = &after[more..];
+        rest = without_front(after, more);
     }
     if let [first, ..] = place.branches.as_slice() {
         return Err(PpFault::OpenIf(first.at));

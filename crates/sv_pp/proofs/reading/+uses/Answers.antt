@@ -1,6 +1,6 @@
 use Rattle.std.proofs.Common.{◌∙◌, ap, sym, arith}
 use Rattle.sv_pp.specs.Reading.{inner_reading, use_reading}
-use Rattle.sv_pp.proofs.Laws.{rest_named, token_read, token_wrong, all_read, not_defined, text_read}
+use Rattle.sv_pp.proofs.Laws.{rest_named, token_read, token_wrong, all_read, use_count, too_deep, not_defined, text_read}
 use Rattle.sv_pp.proofs.reading.+uses.Goals as goal
 
 pub read_body-returns-in-Err : goal.read_body-returns-in-Err
@@ -34,3 +34,13 @@ read_use-returns t c macros kept =
     let a = c.args in
     text_read a.names.now macros a.at a.levels a.token.now c.in-Some.body.now a.going.now c.read.new.self c.read_body.new.going c.read_body.result (omega arith) (c.in-Some.ensures macros kept ∙ ap macros c.named_by.ensures) c.in_default.ensures.went
         (c.read_body.ensures macros kept)
+
+pub read_use-returns-in-Err : goal.read_use-returns-in-Err
+read_use-returns-in-Err t c macros kept =
+    let a = c.args in
+    c.in-Err.ensures.stops (use_reading a.names.now macros a.at a.levels a.token.now) (use_count a.names.now macros a.at a.levels a.token.now)
+
+pub read_use-returns-then-levels-eq0 : goal.read_use-returns-then-levels-eq0
+read_use-returns-then-levels-eq0 t c macros kept =
+    let a = c.args in
+    too_deep a.names.now macros a.at a.levels a.token.now a.going.now c.read.new.self c.if-levels-eq0.true c.in_default.ensures.went
