@@ -1,15 +1,14 @@
 -- Small examples of the definitions, worked by hand from the standard.
-use Rattle.std.specs.Prelude.{◌≡◌, ℕ, ◌+◌, List, [], ◌∷◌, Some, None, codes}
+use Rattle.std.specs.Prelude.{◌≡◌, ℕ, List, [], ◌∷◌, Some, None, codes}
 use Rattle.std.proofs.Common.{refl}
 use Rattle.sv_tree.specs.declared.token.TokenKind.{TokenKind}
 use Rattle.sv_tree.specs.declared.token.TokenKind.TheVariants as kind
 use Rattle.sv_tree.specs.declared.token.Token.{Token}
-use Rattle.sv_tree.specs.declared.names.NameId.{NameId}
 use Rattle.vs_base.specs.declared.origin.Origin.{Origin}
 use Rattle.sv_pp.specs.declared.fault.PpFault.TheVariants as fault
 use Rattle.sv_pp.specs.declared.directive.Role.TheVariants.{Define, Else, Ignored, Refused, Use}
 use Rattle.sv_pp.specs.Directive.{Text, role_of, other_role, is_ignored, is_refused}
-use Rattle.sv_pp.specs.Reading.{Reading, silent, stopped, use_reading}
+use Rattle.sv_pp.specs.Reading.{use_reading}
 use Rattle.sv_pp.specs.Active.{reading}
 
 -- the spellings of the examples, each at its place

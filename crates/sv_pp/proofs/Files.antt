@@ -1,6 +1,5 @@
 -- Whole files: what lasts from token to token and from file to file.
-use Rattle.std.specs.Prelude.{◌≡◌, ◌≤◌, ◌<◌, ℕ, zero, suc, ◌+◌, ◌-◌, Bool, true, false, not, ◌&&◌, if◌then◌else◌, List, [], ◌∷◌, ◌++◌, length, get_or, take, drop, map, Option, Some, None}
-use Rattle.std.specs.List.{prefix_len}
+use Rattle.std.specs.Prelude.{◌≡◌, ◌≤◌, ◌<◌, ℕ, zero, suc, ◌-◌, Bool, true, false, not, ◌&&◌, if◌then◌else◌, List, [], ◌∷◌, length, get_or, take, drop, map}
 use Rattle.std.proofs.Common.{refl, sym, ap, ◌∙◌, subst, arith, append-nil}
 use Rattle.std.proofs.lemmas.List.Sums.{prefix_len-le-length}
 use Rattle.sv_tree.specs.declared.token.Token.{Token}
@@ -17,8 +16,8 @@ use Rattle.sv_pp.specs.Reading.{Reading, Macros, no_macros, joined, silent, stop
 use Rattle.sv_pp.specs.Active.{Branch, State, Step, is_active, is_on, at_start, file_reading, files_reading, reading, step, plain_step, quiet, faulty, line_length, define_as, named_step, define_step, undef_as, open_as, if_step, same, is_undefinable, else_by, endif_by, skipped_step, directive_step, end_reading}
 use Rattle.sv_pp.specs.Answer.{so_far, FaultIs, ReadsAs}
 use Rattle.sv_pp.specs.Table.{Keeps}
-use Rattle.sv_pp.specs.Shown.{read_by, Went, Stops, Remains, Stacked, Shows, Stepped, Ended}
-use Rattle.sv_pp.proofs.Laws.{split_first, nothing_left, passed_over, remains_whole, remains_on, remains_wrong, fault_stays}
+use Rattle.sv_pp.specs.Shown.{read_by, Stops, Remains, Stacked, Shows, Stepped, Ended}
+use Rattle.sv_pp.proofs.Laws.{split_first, nothing_left, passed_over, remains_whole, remains_on, remains_wrong}
 use Rattle.sv_pp.proofs.Places.{stacked_none, end_open}
 
 -- ---- a step takes no more than there is
@@ -159,6 +158,10 @@ module _ (names : List Text) (before now : Going) (place : Place) (rest : List T
         }
 
 -- ---- from file to file
+
+-- what a list of files shows of the first and of those after it
+pub first_file : {A : Type 0} (f : A → List Token) (xs : List A) (x : A) (file : List Token) → 1 ≤ length xs → x ≡ get_or xs 0 x → file ≡ f x → map f xs ≡ file ∷ map f (take (length xs - 1) (drop 1 xs))
+first_file f xs x file some is same = ap (map f) (split_first xs x some) ∙ ap (λ y. f y ∷ map f (take (length xs - 1) (drop 1 xs))) (sym is) ∙ ap (λ ts. ts ∷ map f (take (length xs - 1) (drop 1 xs))) (sym same)
 
 joined_first : (r : Reading) → joined (so_far [] 0) r ≡ r
 joined_first r = ap (λ n. let whole : Reading = record { tokens = r.tokens; count = n; fault = r.fault } in whole) (omega arith)

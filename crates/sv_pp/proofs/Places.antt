@@ -17,13 +17,11 @@ use Rattle.sv_pp.specs.declared.fault.PpFault.TheVariants as fault
 use Rattle.sv_pp.specs.declared.file.Open.{Open}
 use Rattle.sv_pp.specs.declared.file.Place.{Place}
 use Rattle.sv_pp.specs.declared.reading.Going.{Going}
-use Rattle.sv_pp.specs.declared.directive.Role.{Role}
-use Rattle.sv_pp.specs.declared.directive.Role.TheVariants.{Define, Undef, Ifdef, Ifndef, Else, Endif, Ignored, Refused, Use}
 use Rattle.sv_pp.specs.Directive.{Text}
-use Rattle.sv_pp.specs.Reading.{Reading, Macros, silent, active, stopped, text_of, with_macro, is_directive, is_name}
-use Rattle.sv_pp.specs.Active.{Branch, State, Step, is_taken, quiet, faulty, line_length, is_on, define_as, define_step, is_undefinable, named_step, undef_as, open_as, opened, is_defined, else_by, endif_by, outermost, end_reading, skipped_step, plain_step, use_step}
+use Rattle.sv_pp.specs.Reading.{Reading, silent, stopped, text_of, with_macro, is_name}
+use Rattle.sv_pp.specs.Active.{Branch, State, Step, is_taken, quiet, faulty, line_length, is_on, define_as, define_step, is_undefinable, named_step, undef_as, open_as, is_defined, else_by, endif_by, outermost, end_reading}
 use Rattle.sv_pp.specs.Table.{Keeps}
-use Rattle.sv_pp.specs.Shown.{Went, Stops, Reads, Stacked, Shows, Stepped, Takes, branch_of, test_of}
+use Rattle.sv_pp.specs.Shown.{Went, Stops, Stacked, Shows, Stepped, Takes, branch_of, test_of}
 use Rattle.sv_pp.proofs.Laws.{split_first, first_named, nothing_left}
 use Rattle.sv_pp.proofs.Tables.{keeps_set}
 

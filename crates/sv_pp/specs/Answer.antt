@@ -1,11 +1,11 @@
 -- What the preprocessor answers, held against the reading.
-use Rattle.std.specs.Prelude.{◌≡◌, ◌≤◌, ◌<◌, ◌+◌, ℕ, List, [], ◌∷◌, Some, None}
+use Rattle.std.specs.Prelude.{◌≡◌, ◌≤◌, ◌<◌, ℕ, List, [], ◌∷◌, Some, None}
 use Rattle.sv_tree.specs.declared.token.Token.{Token}
 use Rattle.sv_tree.specs.Tokens.{AreNamed}
 use Rattle.sv_pp.specs.declared.fault.PpFault.{PpFault}
 use Rattle.sv_pp.specs.declared.fault.PpFault.TheVariants as fault
 use Rattle.sv_pp.specs.Directive.{Text}
-use Rattle.sv_pp.specs.Reading.{Reading, joined}
+use Rattle.sv_pp.specs.Reading.{Reading}
 
 -- each file's tokens have their spellings in the table
 abbrev pub AllNamed : List Text → List (List Token) → Type 0

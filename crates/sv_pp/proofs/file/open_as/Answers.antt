@@ -1,6 +1,5 @@
 use Rattle.std.proofs.Common.{false, refl, ap, subst, sym, ◌∙◌}
 use mathlib.Core.Bool.{beq}
-use Rattle.sv_pp.specs.Active.{Branch}
 use Rattle.sv_pp.specs.Shown.{Stacked, test_of}
 use Rattle.sv_pp.proofs.Places.{if_opened, defined_as_found, tested}
 use Rattle.sv_pp.proofs.file.open_as.Goals as goal

@@ -1,4 +1,4 @@
-use Rattle.std.proofs.Common.{refl, ap, ◌∙◌, arith, Some, take}
+use Rattle.std.proofs.Common.{refl}
 use Rattle.sv_pp.proofs.file.use_in_file.Goals as goal
 
 pub returns : goal.returns

@@ -1,4 +1,4 @@
-use Rattle.std.proofs.Common.{ℕ, ◌*◌, ◌+◌, length}
+use Rattle.std.proofs.Common.{◌*◌, ◌+◌, length}
 use Rattle.sv_tree.specs.Tokens.{AreNamed}
 use Rattle.sv_pp.specs.Reading.{Macros, each_reading, inner_reading, use_reading}
 use Rattle.sv_pp.specs.Shown.{Remains}

@@ -1,4 +1,4 @@
-use Rattle.std.proofs.Common.{ap, ◌∙◌, set, Some, None}
+use Rattle.std.proofs.Common.{ap, ◌∙◌, set, Some}
 use Rattle.sv_pp.proofs.Tables.{shown_set}
 use Rattle.sv_pp.proofs.macros.Table.define.Goals as goal
 
