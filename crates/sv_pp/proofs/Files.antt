@@ -127,8 +127,8 @@ module _ (names : List Text) (before now : Going) (place : Place) (rest : List T
           state = token_step.after;
           shows = stepped.shows;
           remains = λ next.
-            subst (λ r. Remains before after r (whole next)) (passed_over names next token_step.more token_step.after tail)
-                (remains_on before now after token_step.reading (file_reading names next token_step.more token_step.after tail) (whole next) (parts next) stepped.went);
+              subst (λ r. Remains before after r (whole next)) (passed_over names next token_step.more token_step.after tail)
+              (remains_on before now after token_step.reading (file_reading names next token_step.more token_step.after tail) (whole next) (parts next) stepped.went);
         })
 
     -- a step's fault is the file's
@@ -144,7 +144,7 @@ module _ (names : List Text) (before now : Going) (place : Place) (rest : List T
     left_open opens d is some next =
         let stacked : Stacked opens left.state.branches = subst (λ xs. Stacked xs left.state.branches) (sym is) left.shows.stacked in
         let opened : Remains before now (stopped 0 (fault.OpenIf (get_or opens 0 d).at)) (whole next) =
-          subst (λ r. Remains before now r (whole next)) (end_open opens left.state.branches d (next left.state.macros) stacked some) (at_end next) in
+        subst (λ r. Remains before now r (whole next)) (end_open opens left.state.branches d (next left.state.macros) stacked some) (at_end next) in
         remains_wrong before now (stopped 0 (fault.OpenIf (get_or opens 0 d).at)) (silent 0) (whole next) (fault.OpenIf (get_or opens 0 d).at) opened (refl, omega (arith, opened.few))
 
     -- each branch is closed
@@ -203,6 +203,7 @@ module _ (names : List Text) (most : ℕ) (now : Going) (place : Place) (file : 
   files_wrong f stops = subst (λ n. FaultIs n f (reading names files)) left.same_most (subst (λ r. FaultIs now.most f r) left.is (stops following))
 
 -- each file was read
-pub files_end : (names : List Text) (most : ℕ) (now : Going) (place : Place) (files : List (List Token)) → FilesLeft names most now place [] files → ReadsAs most now.tokens.items (reading names files)
-files_end names most now place files left =
+pub files_end : {A : Type 0} (f : A → List Token) (names : List Text) (most : ℕ) (now : Going) (place : Place) (rest : List A) (files : List (List Token)) → length rest < 1 → FilesLeft names most now place (map f rest) files → ReadsAs most now.tokens.items (reading names files)
+files_end f names most now place rest files none some =
+    let left = subst (λ xs. FilesLeft names most now place (map f xs) files) (nothing_left rest none) some in
     subst (λ r. ReadsAs most now.tokens.items r) left.is (record { whole = refl; few = omega (arith, left.few, left.same_most); tokens_are = sym (append-nil now.tokens.items) })

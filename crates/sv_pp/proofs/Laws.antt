@@ -140,9 +140,9 @@ module _ (rest : List Token) (d : Token) (some : 1 ≤ length rest) where
     pub token_wrong : (e : PpFault) → Stops now (f (get_or rest 0 d)) e → Stops before whole e
     token_wrong e stops = remains_wrong before now (f (get_or rest 0 d)) (each_reading f (take (length rest - 1) (drop 1 rest))) whole e parts stops
 
-pub nothing_left : (ts : List Token) → length ts < 1 → ts ≡ []
+pub nothing_left : {A : Type 0} (xs : List A) → length xs < 1 → xs ≡ []
 nothing_left [] none = refl
-nothing_left (t ∷ ts) none = absurd (omega arith)
+nothing_left (x ∷ xs) none = absurd (omega arith)
 
 -- no token is left
 pub all_read : (f : Token → Reading) (before now : Going) (rest : List Token) (whole : Reading) → length rest < 1 → Remains before now (each_reading f rest) whole → Went before now whole

@@ -3,3 +3,5 @@ pub mod Laws
 pub mod Tables
 pub mod Places
 pub mod Files
+pub mod Every
+pub mod Answers

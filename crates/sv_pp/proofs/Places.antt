@@ -57,7 +57,7 @@ module _ (opens : List Open) (bs : List Branch) (d : Open) (stacked : Stacked op
   active_inside [] stacked = absurd (omega (arith, some, ap length stacked))
   active_inside (b ∷ bs) stacked =
       let last : slice_index_or opens (length opens - 1) d ≡ stacked.0 =
-        ap (λ xs. slice_index_or xs (length opens - 1) d) stacked.2 ∙ get_or_push stacked.1 stacked.0 d (length opens - 1) (omega (arith, ap length stacked.2, length-append stacked.1 (stacked.0 ∷ []))) in
+      ap (λ xs. slice_index_or xs (length opens - 1) d) stacked.2 ∙ get_or_push stacked.1 stacked.0 d (length opens - 1) (omega (arith, ap length stacked.2, length-append stacked.1 (stacked.0 ∷ []))) in
       ap (λ (o : Open). o.taken && o.outer) last ∙ ap (λ outer. stacked.0.taken && outer) stacked.4 ∙ ap (λ (c : Branch). c.taken && list_all is_taken bs) (sym stacked.3)
 
   pub active_taken : (slice_index_or opens (length opens - 1) d).taken ≡ true → (slice_index_or opens (length opens - 1) d).outer ≡ list_all is_taken bs
@@ -116,10 +116,10 @@ stepped_quietly names going going' place' n m more after count same went shows =
 
 -- ---- definitions
 
-some_same : {xs ys : List Token} → Some xs ≡ Some ys → xs ≡ ys
+pub some_same : {xs ys : List Token} → Some xs ≡ Some ys → xs ≡ ys
 some_same is = cc
 
-named_front : (names : List Text) (n : ℕ) (ts : List Token) → AreNamed names ts → AreNamed names (take n ts)
+pub named_front : (names : List Text) (n : ℕ) (ts : List Token) → AreNamed names ts → AreNamed names (take n ts)
 named_front names zero ts named = tt
 named_front names (suc n) [] named = tt
 named_front names (suc n) (t ∷ ts) named = (named.0, named_front names n ts named.1)
@@ -136,8 +136,8 @@ pub defined : (names : List Text) (place place' : Place) (going going' : Going) 
     → place'.table ≡ set place.table name.name.0 (Some (take more rest)) → place'.branches.items ≡ place.branches.items → Went going going' (silent (more + 2)) → Stepped names going going' place' (more + 1) (define_as names s name rest (line_length line rest))
 defined names place place' going going' s name line rest more shows inside named is table branches went =
     subst (λ n. Stepped names going going' place' (more + 1) (define_as names s name rest n)) is
-        (stepped_quietly names going going' place' (more + 2) (suc more) (more + 1) _ (omega arith) (omega arith) went
-            (shows_body names place place' s name inside shows branches (Some (take more rest)) (λ new same. subst (AreNamed names) (some_same same) (named_front names more rest named)) table))
+    (stepped_quietly names going going' place' (more + 2) (suc more) (more + 1) _ (omega arith) (omega arith) went
+    (shows_body names place place' s name inside shows branches (Some (take more rest)) (λ new same. subst (AreNamed names) (some_same same) (named_front names more rest named)) table))
 
 -- ---- a directive that wants a name
 
@@ -178,7 +178,7 @@ pub undefined : (names : List Text) (place place' : Place) (going going' : Going
     → place'.table ≡ set place.table (get_or rest 0 d).name.0 None → place'.branches.items ≡ place.branches.items → Went going going' (silent 2) → Stepped names going going' place' 1 (named_step s t (undef_as names s) rest)
 undefined names place place' going going' s t rest d some is_there shows named table branches went =
     subst (Stepped names going going' place' 1) (name_there s t d (undef_as names s) rest some is_there)
-        (stepped_quietly names going going' place' 2 1 1 _ refl refl went (shows_body names place place' s (get_or rest 0 d) (first_named rest d some names named) shows branches None (λ new same. cc) table))
+    (stepped_quietly names going going' place' 2 1 1 _ refl refl went (shows_body names place place' s (get_or rest 0 d) (first_named rest d some names named) shows branches None (λ new same. cc) table))
 
 -- ---- `define`
 
@@ -232,7 +232,7 @@ module _ (names : List Text) (place : Place) (s : State) (t : Token) (shows : Sh
       else_turned p first turned same same_outer =
           let after : State = record { macros = s.macros; branches = record { at = o.at; taken = not o.taken; is_else = true } ∷ top.below } in
           let step_is : else_by s.branches s t ≡ quiet 0 after =
-            ap (λ bs. else_by bs s t) top.is ∙ ap (λ b. if b then faulty 0 (fault.StrayElse t.at) s else quiet 0 after) first in
+          ap (λ bs. else_by bs s t) top.is ∙ ap (λ b. if b then faulty 0 (fault.StrayElse t.at) s else quiet 0 after) first in
           subst (λ st. Stepped names going going' place' 0 st) (sym step_is) (record {
             went = went;
             more_is = refl;

@@ -18,6 +18,12 @@ pub record ReadsAs (most : ℕ) (tokens : List Token) (r : Reading) : Type 0 whe
   pub few : r.count ≤ most
   pub tokens_are : tokens ≡ r.tokens
 
+-- the fault is one of the files, and not of the machine or of the limit
+abbrev pub IsOfFiles : PpFault → Type 0
+IsOfFiles fault.NoMemory = ⊥
+IsOfFiles fault.TooMany = ⊥
+IsOfFiles _ = Unit {0}
+
 -- the fault is the reading's; where more tokens than so many are read up to it, or to the end, that is the fault
 abbrev pub FaultIs : ℕ → PpFault → Reading → Type 0
 FaultIs most fault.NoMemory r = Unit {0}

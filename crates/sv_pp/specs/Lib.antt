@@ -4,3 +4,4 @@ pub mod Active
 pub mod Answer
 pub mod Table
 pub mod Shown
+pub mod NamedLaws

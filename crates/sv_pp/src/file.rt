@@ -435,6 +435,8 @@ fn read_file(
 pub fn preprocess(alloc: Global, files: &[Vec<Token>], names: &Names) -> Result<Vec<Token>, PpFault>
     requires named { AllNamed names.now (map (λ file. file.items) files.now) }
     ensures tokens { IfOk result (λ tokens. ReadsAs 1000000 tokens.items (spec.reading names.now (map (λ file. file.items) files.now))) }
+    ensures named { IfOk result (λ tokens. AreNamed names.now tokens.items) }
+    ensures few { IfOk result (λ tokens. length tokens.items ≤ 1000000) }
     ensures fault { IfErr result (λ f. FaultIs 1000000 f (spec.reading names.now (map (λ file. file.items) files.now))) }
 {
     preprocess_up_to(alloc, files, names, TOKENS)
@@ -449,6 +451,8 @@ pub fn preprocess_up_to(
 ) -> Result<Vec<Token>, PpFault>
     requires named { AllNamed names.now (map (λ file. file.items) files.now) }
     ensures tokens { IfOk result (λ tokens. ReadsAs most tokens.items (spec.reading names.now (map (λ file. file.items) files.now))) }
+    ensures named { IfOk result (λ tokens. AreNamed names.now tokens.items) }
+    ensures few { IfOk result (λ tokens. length tokens.items ≤ most) }
     ensures fault { IfErr result (λ f. FaultIs most f (spec.reading names.now (map (λ file. file.items) files.now))) }
 {
     let mut place = Place {

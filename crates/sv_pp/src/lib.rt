@@ -35,12 +35,14 @@
 mod directive;
 mod fault;
 mod file;
+mod law;
 mod macros;
 mod reading;
 
 pub use directive::{Role, role_of};
 pub use fault::PpFault;
 pub use file::{preprocess, preprocess_up_to};
+pub use law::{one_answer, tokens_or_fault};
 
 #[cfg(test)]
 mod tests;

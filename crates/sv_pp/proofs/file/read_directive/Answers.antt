@@ -9,11 +9,11 @@ returns-in-Define c =
     let a = c.args in
     let step : State → Step = λ s. define_step a.names.now s a.token.now a.rest.now in
     takes_as a.names.now a.place.now c.define.new.place a.going.now c.define.new.going c.define.result step _
-        (λ s shows. ap (λ role. directive_step a.names.now s role a.token.now a.rest.now) (sym c.in-Define.is ∙ c.role_of.ensures ∙ ap role_of c.named_by.ensures)) c.define.ensures
+    (λ s shows. ap (λ role. directive_step a.names.now s role a.token.now a.rest.now) (sym c.in-Define.is ∙ c.role_of.ensures ∙ ap role_of c.named_by.ensures)) c.define.ensures
 
 pub returns-in-Undef : goal.returns-in-Undef
 returns-in-Undef c =
     let a = c.args in
     let step : State → Step = λ s. undef_step a.names.now s a.token.now a.rest.now in
     takes_as a.names.now a.place.now c.undef.new.place a.going.now c.undef.new.going c.undef.result step _
-        (λ s shows. ap (λ role. directive_step a.names.now s role a.token.now a.rest.now) (sym c.in-Undef.is ∙ c.role_of.ensures ∙ ap role_of c.named_by.ensures)) c.undef.ensures
+    (λ s shows. ap (λ role. directive_step a.names.now s role a.token.now a.rest.now) (sym c.in-Undef.is ∙ c.role_of.ensures ∙ ap role_of c.named_by.ensures)) c.undef.ensures

@@ -22,10 +22,11 @@ without_front-rest-requires c =
 
 pub loop-rest-preserved : goal.loop-rest-preserved
 loop-rest-preserved c =
-    let a = c.args in
-    ( subst (AreNamed a.names.now) (sym c.without_front-rest.ensures) (named_after a.names.now c.in-Ok.more _ (rest_named a.names.now c.loop-rest.rest.now c.in-len1-up.len_at_least c.loop-rest.invariant.0))
-    , λ macros shows. let left = c.loop-rest.invariant.1 macros shows in 
-        rw c.without_front-rest.ensures (left_on a.names.now a.going.now c.loop-rest.going c.loop-rest.place c.loop-rest.rest.now macros a.tokens.now left _ c.in-len1-up.len_at_least c.step.new.going c.step.new.place c.in-Ok.more (c.in-Ok.ensures left.state left.shows)))
+    let a = c.args in (
+      subst (AreNamed a.names.now) (sym c.without_front-rest.ensures) (named_after a.names.now c.in-Ok.more _ (rest_named a.names.now c.loop-rest.rest.now c.in-len1-up.len_at_least c.loop-rest.invariant.0)),
+      λ macros shows. let left = c.loop-rest.invariant.1 macros shows in
+          rw c.without_front-rest.ensures (left_on a.names.now a.going.now c.loop-rest.going c.loop-rest.place c.loop-rest.rest.now macros a.tokens.now left _ c.in-len1-up.len_at_least c.step.new.going c.step.new.place c.in-Ok.more (c.in-Ok.ensures left.state left.shows)),
+    )
 
 pub returns-in-len1-up-as_slice : goal.returns-in-len1-up-as_slice
 returns-in-len1-up-as_slice c macros shows next =

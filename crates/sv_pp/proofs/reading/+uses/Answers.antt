@@ -10,9 +10,10 @@ read_body-returns-in-Err t c macros kept =
 
 pub read_body-loop-rest-preserved : goal.read_body-loop-rest-preserved
 read_body-loop-rest-preserved t c =
-    let a = c.args in
-    ( rest_named a.names.now c.loop-rest.rest.now c.in-len1-up.len_at_least c.loop-rest.invariant.0
-    , λ macros kept. token_read c.loop-rest.rest.now _ c.in-len1-up.len_at_least (inner_reading a.names.now a.at (use_reading a.names.now macros a.at a.levels)) a.going.now c.loop-rest.going _ (c.loop-rest.invariant.1 macros kept) c.read_inner.new.going (c.in_default-read_inner.ensures macros kept))
+    let a = c.args in (
+      rest_named a.names.now c.loop-rest.rest.now c.in-len1-up.len_at_least c.loop-rest.invariant.0,
+      λ macros kept. token_read c.loop-rest.rest.now _ c.in-len1-up.len_at_least (inner_reading a.names.now a.at (use_reading a.names.now macros a.at a.levels)) a.going.now c.loop-rest.going _ (c.loop-rest.invariant.1 macros kept) c.read_inner.new.going (c.in_default-read_inner.ensures macros kept),
+    )
 
 pub read_body-returns : goal.read_body-returns
 read_body-returns t c macros kept =
@@ -33,7 +34,7 @@ pub read_use-returns : goal.read_use-returns
 read_use-returns t c macros kept =
     let a = c.args in
     text_read a.names.now macros a.at a.levels a.token.now c.in-Some.body.now a.going.now c.read.new.self c.read_body.new.going c.read_body.result (omega arith) (c.in-Some.ensures macros kept ∙ ap macros c.named_by.ensures) c.in_default.ensures.went
-        (c.read_body.ensures macros kept)
+    (c.read_body.ensures macros kept)
 
 pub read_use-returns-in-Err : goal.read_use-returns-in-Err
 read_use-returns-in-Err t c macros kept =
