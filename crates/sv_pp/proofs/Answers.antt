@@ -1,5 +1,5 @@
 -- Each list of files has one answer, and no other.
-use Rattle.std.specs.Prelude.{◌≡◌, ◌≢◌, ◌⊎◌, ◌≤◌, ◌<◌, ℕ, ◌+◌, List, [], ◌∷◌, ◌++◌, length, Option, Some, None}
+use Rattle.std.specs.Prelude.{◌≡◌, ◌≢◌, ◌⊎◌, ◌≤◌, ◌<◌, ℕ, List, [], ◌∷◌, ◌++◌, length, Option, Some, None}
 use Rattle.std.proofs.Common.{inl, inr, refl, sym, ap, ◌∙◌, subst, arith, length-append}
 use Rattle.std.proofs.lemmas.Bool.{cases_lt}
 use Rattle.sv_tree.specs.declared.token.Token.{Token}
@@ -7,7 +7,7 @@ use Rattle.sv_tree.specs.Tokens.{AreNamed}
 use Rattle.sv_pp.specs.declared.fault.PpFault.{PpFault}
 use Rattle.sv_pp.specs.declared.fault.PpFault.TheVariants as fault
 use Rattle.sv_pp.specs.Directive.{Text}
-use Rattle.sv_pp.specs.Reading.{Reading, joined, joined_by}
+use Rattle.sv_pp.specs.Reading.{Reading, joined_by}
 use Rattle.sv_pp.specs.Active.{reading}
 use Rattle.sv_pp.specs.Answer.{AllNamed, IsOfFiles, ReadsAs, FaultIs}
 use Rattle.sv_pp.proofs.Every.{of_reading}

@@ -1,7 +1,7 @@
 -- What is true of every reading of files: shown once for any property that lasts when readings are joined.
-use Rattle.std.specs.Prelude.{◌≡◌, ◌≤◌, ◌<◌, ℕ, zero, suc, ◌+◌, Bool, true, false, not, ◌&&◌, if◌then◌else◌, List, [], ◌∷◌, ◌++◌, length, take, Option, Some, None}
+use Rattle.std.specs.Prelude.{◌≡◌, ◌<◌, ℕ, zero, suc, Bool, true, false, not, ◌&&◌, if◌then◌else◌, List, [], ◌∷◌, length, take, Option, Some, None}
 use Rattle.std.specs.Str.{bytes_eq}
-use Rattle.std.proofs.Common.{refl, sym, ap, ◌∙◌, subst, arith, length-append}
+use Rattle.std.proofs.Common.{refl, subst}
 use Rattle.sv_tree.specs.declared.token.Token.{Token}
 use Rattle.sv_tree.specs.Tokens.{AreNamed}
 use Rattle.vs_base.specs.declared.origin.Origin.{Origin}
@@ -10,8 +10,8 @@ use Rattle.sv_pp.specs.declared.fault.PpFault.TheVariants as fault
 use Rattle.sv_pp.specs.declared.directive.Role.{Role}
 use Rattle.sv_pp.specs.declared.directive.Role.TheVariants.{Define, Undef, Ifdef, Ifndef, Else, Endif, Ignored, Refused, Use}
 use Rattle.sv_pp.specs.Directive.{Text, role_of}
-use Rattle.sv_pp.specs.Reading.{Reading, Macros, no_macros, with_macro, joined, joined_by, silent, active, stopped, placed, each_reading, inner_reading, inner_use, use_by, use_reading, text_of, named_by, is_directive, is_name}
-use Rattle.sv_pp.specs.Active.{Branch, State, Step, is_active, is_on, at_start, file_reading, files_reading, reading, step, plain_step, quiet, faulty, line_length, define_as, named_step, define_step, undef_as, open_as, if_step, same, is_undefinable, with_body, else_by, endif_by, skipped_step, directive_step, end_reading, outermost, most_levels}
+use Rattle.sv_pp.specs.Reading.{Reading, Macros, no_macros, joined, silent, active, stopped, placed, each_reading, inner_reading, inner_use, use_by, use_reading, text_of, named_by, is_directive, is_name}
+use Rattle.sv_pp.specs.Active.{Branch, State, Step, is_active, is_on, at_start, file_reading, files_reading, reading, step, quiet, faulty, line_length, define_as, named_step, define_step, undef_as, open_as, if_step, same, is_undefinable, with_body, else_by, endif_by, skipped_step, directive_step, end_reading, outermost, most_levels}
 use Rattle.sv_pp.specs.Answer.{AllNamed, IsOfFiles}
 use Rattle.sv_pp.proofs.Places.{named_front, some_same}
 

@@ -14,10 +14,10 @@ use Rattle.sv_pp.specs.declared.directive.Role.TheVariants.{Define, Undef, Ifdef
 use Rattle.sv_pp.specs.Directive.{Text, role_of}
 use Rattle.sv_pp.specs.Reading.{Reading, Macros, no_macros, joined, silent, stopped, named_by, is_directive, is_name}
 use Rattle.sv_pp.specs.Active.{Branch, State, Step, is_active, is_on, at_start, file_reading, files_reading, reading, step, plain_step, quiet, faulty, line_length, define_as, named_step, define_step, undef_as, open_as, if_step, same, is_undefinable, else_by, endif_by, skipped_step, directive_step, end_reading}
-use Rattle.sv_pp.specs.Answer.{so_far, FaultIs, ReadsAs}
+use Rattle.sv_pp.specs.Answer.{so_far, ReadsAs}
 use Rattle.sv_pp.specs.Table.{Keeps}
 use Rattle.sv_pp.specs.Shown.{read_by, Stops, Remains, Stacked, Shows, Stepped, Ended}
-use Rattle.sv_pp.proofs.Laws.{split_first, nothing_left, passed_over, remains_whole, remains_on, remains_wrong}
+use Rattle.sv_pp.proofs.Laws.{split_first, nothing_left, passed_over, remains_on, remains_wrong}
 use Rattle.sv_pp.proofs.Places.{stacked_none, end_open}
 
 -- ---- a step takes no more than there is
@@ -98,9 +98,6 @@ pub record Left (names : List Text) (before now : Going) (place : Place) (rest :
   pub state : State
   pub shows : Shows names place state
   pub remains : (next : Macros → Reading) → Remains before now (file_reading names next 0 state rest) (file_reading names next 0 (at_start macros) tokens)
-
-pub left_whole : (names : List Text) (now : Going) (place : Place) (macros : Macros) (tokens : List Token) → now.count ≤ now.most → Shows names place (at_start macros) → Left names now now place tokens macros tokens
-left_whole names now place macros tokens few shows = record { state = at_start macros; shows = shows; remains = λ next. remains_whole now (file_reading names next 0 (at_start macros) tokens) few }
 
 module _ (names : List Text) (before now : Going) (place : Place) (rest : List Token) (macros : Macros) (tokens : List Token) (left : Left names before now place rest macros tokens) where
   abbrev whole : (Macros → Reading) → Reading
@@ -197,10 +194,6 @@ module _ (names : List Text) (most : ℕ) (now : Going) (place : Place) (file : 
     few = (ended.remains following).few;
     same_most = (ended.remains following).same_most ∙ left.same_most;
   }
-
-  -- a file's fault is that of all
-  pub files_wrong : (f : PpFault) → ((next : Macros → Reading) → Stops now (file_reading names next 0 (at_start left.macros) file) f) → FaultIs most f (reading names files)
-  files_wrong f stops = subst (λ n. FaultIs n f (reading names files)) left.same_most (subst (λ r. FaultIs now.most f r) left.is (stops following))
 
 -- each file was read
 pub files_end : {A : Type 0} (f : A → List Token) (names : List Text) (most : ℕ) (now : Going) (place : Place) (rest : List A) (files : List (List Token)) → length rest < 1 → FilesLeft names most now place (map f rest) files → ReadsAs most now.tokens.items (reading names files)

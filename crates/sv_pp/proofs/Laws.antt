@@ -1,14 +1,13 @@
 -- Laws of readings: what is joined, and what stays true of a fault.
-use Rattle.std.specs.Prelude.{◌≡◌, ◌≤◌, ◌<◌, ℕ, zero, suc, ◌+◌, ◌-◌, true, if◌then◌else◌, List, [], ◌∷◌, length, get_or, take, drop, Option, Some, None, Result, Ok, Err}
+use Rattle.std.specs.Prelude.{◌≡◌, ◌≤◌, ◌<◌, ℕ, zero, suc, ◌+◌, ◌-◌, List, [], ◌∷◌, length, get_or, take, drop, Option, Some, None, Result, Ok, Err}
 use Rattle.std.proofs.Common.{refl, sym, ap, ◌∙◌, subst, arith, append_assoc, append-nil}
 use Rattle.std.proofs.lemmas.List.{take_all}
 use Rattle.sv_tree.specs.declared.token.Token.{Token}
 use Rattle.sv_tree.specs.Tokens.{AreNamed}
 use Rattle.sv_pp.specs.declared.fault.PpFault.{PpFault}
 use Rattle.sv_pp.specs.declared.fault.PpFault.TheVariants as fault
-use Rattle.sv_pp.specs.declared.directive.Role.TheVariants.{Use}
-use Rattle.sv_pp.specs.Directive.{Text, role_of}
-use Rattle.sv_pp.specs.Reading.{Reading, Macros, joined, joined_by, silent, active, placed, each_reading, inner_reading, inner_use, use_by, use_reading, named_by, is_directive}
+use Rattle.sv_pp.specs.Directive.{Text}
+use Rattle.sv_pp.specs.Reading.{Reading, Macros, joined, joined_by, silent, each_reading, inner_reading, use_by, use_reading, named_by}
 use Rattle.sv_pp.specs.Active.{State, file_reading}
 use Rattle.sv_pp.specs.Answer.{FaultIs, so_far}
 use Rattle.sv_pp.specs.declared.reading.Going.{Going}
@@ -110,10 +109,6 @@ remains_wrong before now a b whole f so stops =
 pub remains_none : (before now : Going) (whole : Reading) → Remains before now (silent 0) whole → Went before now whole
 remains_none before now whole so = record { is = sym (joined_nothing now.tokens.items now.count) ∙ so.is; few = so.few; same_most = so.same_most }
 
--- what is left is the whole of what follows
-pub remains_further : (before now after : Going) (left rest whole : Reading) → Remains before now rest whole → Remains now after left rest → Remains before after left whole
-remains_further before now after left rest whole so further = record { is = further.is ∙ so.is; few = further.few; same_most = further.same_most ∙ so.same_most }
-
 -- ---- lists that are read token by token
 
 -- the first element and those after it
@@ -183,7 +178,3 @@ pub text_read : {A : Type 0} (names : List Text) (macros : Macros) (at : Origin)
     → Reads middle after result (each_reading (inner_reading names at (use_reading names macros at (levels - 1))) body) → Reads before after result (use_reading names macros at levels t)
 text_read names macros at levels t body before middle after result some is went reads =
     subst (λ r. Reads before after result r) (sym (use_at names macros at levels t (Some body) some is)) (reads_later before middle after result (silent 1) (each_reading (inner_reading names at (use_reading names macros at (levels - 1))) body) went reads)
-
--- the use of a macro in a macro's text
-pub inner_is_use : (names : List Text) (at : Origin) (inner : Token → Reading) (t : Token) → is_directive t.kind ≡ true → role_of (named_by names t) ≡ Use → inner_reading names at inner t ≡ inner t
-inner_is_use names at inner t directive is_use = ap (λ b. if b then inner_use at inner (role_of (named_by names t)) t else active (placed at t)) directive ∙ ap (λ r. inner_use at inner r t) is_use

@@ -1,9 +1,9 @@
 -- Steps of the code in a file: what the place shows after each.
-use Rattle.std.specs.Prelude.{◌≡◌, ◌≤◌, ◌<◌, ℕ, zero, suc, ◌+◌, ◌-◌, Bool, true, false, not, ◌&&◌, if◌then◌else◌, List, [], ◌∷◌, ◌++◌, length, get_or, slice_index_or, slice_get, take, drop, set, Option, Some, None, Result, Ok, Err, MatchResult}
+use Rattle.std.specs.Prelude.{◌≡◌, ◌≤◌, ◌<◌, ℕ, zero, suc, ◌+◌, ◌-◌, Bool, true, false, not, ◌&&◌, if◌then◌else◌, List, [], ◌∷◌, ◌++◌, length, get_or, slice_index_or, slice_get, take, set, Option, Some, None, Result, Ok, Err}
 use Rattle.std.specs.List.{list_all}
 use Rattle.std.specs.Option.{option_map, is_some}
 use Rattle.std.proofs.Common.{refl, sym, ap, ◌∙◌, subst, arith, length-append}
-use Rattle.std.proofs.lemmas.List.{same_from_push, get_or_push}
+use Rattle.std.proofs.lemmas.List.{get_or_push}
 use Rattle.sv_tree.specs.declared.token.TokenKind.{TokenKind}
 use Rattle.sv_tree.specs.declared.token.TokenKind.TheVariants as kind
 use Rattle.sv_tree.specs.contracts.token.TokenKind.{the_type}
@@ -19,10 +19,10 @@ use Rattle.sv_pp.specs.declared.file.Place.{Place}
 use Rattle.sv_pp.specs.declared.reading.Going.{Going}
 use Rattle.sv_pp.specs.Directive.{Text}
 use Rattle.sv_pp.specs.Reading.{Reading, silent, stopped, text_of, with_macro, is_name}
-use Rattle.sv_pp.specs.Active.{Branch, State, Step, is_taken, quiet, faulty, line_length, is_on, define_as, define_step, is_undefinable, named_step, undef_as, open_as, is_defined, else_by, endif_by, outermost, end_reading}
+use Rattle.sv_pp.specs.Active.{Branch, State, Step, is_taken, quiet, faulty, line_length, define_as, named_step, undef_as, open_as, is_defined, outermost, end_reading}
 use Rattle.sv_pp.specs.Table.{Keeps}
 use Rattle.sv_pp.specs.Shown.{Went, Stops, Stacked, Shows, Stepped, Takes, branch_of, test_of}
-use Rattle.sv_pp.proofs.Laws.{split_first, first_named, nothing_left}
+use Rattle.sv_pp.proofs.Laws.{split_first, first_named}
 use Rattle.sv_pp.proofs.Tables.{keeps_set}
 
 -- ---- the open branches
@@ -30,24 +30,6 @@ use Rattle.sv_pp.proofs.Tables.{keeps_set}
 pub stacked_none : (opens : List Open) (bs : List Branch) → Stacked opens bs → length opens < 1 → bs ≡ []
 stacked_none opens [] stacked none = refl
 stacked_none opens (b ∷ bs) stacked none = absurd (omega (arith, ap length stacked.2, length-append stacked.1 (stacked.0 ∷ [])))
-
--- the innermost branch and those round it
-pub record Top (o : Open) (round : List Open) (bs : List Branch) : Type 0 where
-  pub below : List Branch
-  pub is : bs ≡ branch_of o ∷ below
-  pub outer : o.outer ≡ list_all is_taken below
-  pub stacked : Stacked round below
-
-pub stacked_top : (opens round : List Open) (o : Open) (bs : List Branch) → Stacked opens bs → opens ≡ round ++ o ∷ [] → Top o round bs
-stacked_top opens round o [] stacked is = absurd (omega (arith, ap length stacked, ap length is, length-append round (o ∷ [])))
-stacked_top opens round o (b ∷ bs) stacked is =
-    let same = same_from_push stacked.1 round stacked.0 o (sym stacked.2 ∙ is) in
-    record {
-      below = bs;
-      is = ap (λ c. c ∷ bs) (stacked.3 ∙ ap branch_of same.1);
-      outer = ap (λ (p : Open). p.outer) (sym same.1) ∙ stacked.4;
-      stacked = subst (λ xs. Stacked xs bs) same.0 stacked.5;
-    }
 
 pub active_outside : (opens : List Open) (bs : List Branch) → Stacked opens bs → length opens < 1 → true ≡ list_all is_taken bs
 active_outside opens bs stacked none = ap (list_all is_taken) (sym (stacked_none opens bs stacked none))
@@ -91,24 +73,6 @@ pub takes_as : (names : List Text) (place place' : Place) (going going' : Going)
     → Takes names place going place' going' result step'
 takes_as names place place' going going' (Ok more) step step' same takes = λ s shows. subst (λ st. Stepped names going going' place' more st) (same s shows) (takes s shows)
 takes_as names place place' going going' (Err f) step step' same takes = λ s shows. subst (λ (st : Step). Stops going st.reading f) (same s shows) (takes s shows)
-
--- a directive is refused after so many tokens
-pub takes_refused : (names : List Text) (place place' : Place) (going going' : Going) (result : Result ℕ PpFault) (step : State → Step) (count : ℕ) (f : PpFault) → ((s : State) → (step s).reading ≡ stopped count f) → MatchResult result (λ _. ⊥) (λ e. Stops going (stopped count f) e)
-    → Takes names place going place' going' result step
-takes_refused names place place' going going' (Ok more) step count f same refused = absurd refused
-takes_refused names place place' going going' (Err e) step count f same refused = λ s shows. subst (λ r. Stops going r e) (sym (same s)) refused
-
--- so many tokens are skipped
-pub takes_quiet : (names : List Text) (place : Place) (going going' : Going) (result : Result ℕ PpFault) (more : ℕ) → MatchResult result (λ n. (n ≡ more) × Went going going' (silent (more + 1))) (λ f. Stops going (silent (more + 1)) f)
-    → Takes names place going place going' result (λ s. quiet more s)
-takes_quiet names place going going' (Ok n) more skipped = λ s shows. record {
-  went = subst (λ k. Went going going' (silent k)) (omega arith) skipped.1;
-  more_is = skipped.0;
-  shows = shows;
-}
-takes_quiet names place going going' (Err f) more skipped = λ s shows.
-    let same : more + 1 ≡ suc more = omega arith in
-    subst (λ k. Stops going (silent k) f) same skipped
 
 -- so many tokens were read, and the place shows the state after them
 pub stepped_quietly : (names : List Text) (going going' : Going) (place' : Place) (n m more : ℕ) (after : State) → n ≡ suc m → more ≡ m → Went going going' (silent n) → Shows names place' after → Stepped names going going' place' more (quiet m after)
@@ -160,18 +124,9 @@ is_a_name k differs is same = sym (is_name-sameb k) ∙ sym (not_not (sameb the_
     not_not true = refl
     not_not false = refl
 
-module _ (s : State) (t d : Token) (with_name : Token → Step) (rest : List Token) where
-  pub name_missing : length rest < 1 → (named_step s t with_name rest).reading ≡ stopped 1 (fault.Directive t.at t.name)
-  name_missing none = ap (λ ts. (named_step s t with_name ts).reading) (nothing_left rest none)
-
-  pub name_other : 1 ≤ length rest → is_name (get_or rest 0 d).kind ≡ false → (named_step s t with_name rest).reading ≡ stopped 1 (fault.Directive t.at t.name)
-  name_other some other =
-      ap (λ ts. (named_step s t with_name ts).reading) (split_first rest d some)
-      ∙ ap (λ b. (if b then with_name (get_or rest 0 d) else faulty 0 (fault.Directive t.at t.name) s).reading) other
-
-  pub name_there : 1 ≤ length rest → is_name (get_or rest 0 d).kind ≡ true → with_name (get_or rest 0 d) ≡ named_step s t with_name rest
-  name_there some there =
-      sym (ap (named_step s t with_name) (split_first rest d some) ∙ ap (λ b. if b then with_name (get_or rest 0 d) else faulty 0 (fault.Directive t.at t.name) s) there)
+name_there : (s : State) (t d : Token) (with_name : Token → Step) (rest : List Token) → 1 ≤ length rest → is_name (get_or rest 0 d).kind ≡ true → with_name (get_or rest 0 d) ≡ named_step s t with_name rest
+name_there s t d with_name rest some is_there =
+    sym (ap (named_step s t with_name) (split_first rest d some) ∙ ap (λ b. if b then with_name (get_or rest 0 d) else faulty 0 (fault.Directive t.at t.name) s) is_there)
 
 -- a name's text is forgotten
 pub undefined : (names : List Text) (place place' : Place) (going going' : Going) (s : State) (t : Token) (rest : List Token) (d : Token) → 1 ≤ length rest → is_name (get_or rest 0 d).kind ≡ true → Shows names place s → AreNamed names rest
@@ -179,79 +134,6 @@ pub undefined : (names : List Text) (place place' : Place) (going going' : Going
 undefined names place place' going going' s t rest d some is_there shows named table branches went =
     subst (Stepped names going going' place' 1) (name_there s t d (undef_as names s) rest some is_there)
     (stepped_quietly names going going' place' 2 1 1 _ refl refl went (shows_body names place place' s (get_or rest 0 d) (first_named rest d some names named) shows branches None (λ new same. cc) table))
-
--- ---- `define`
-
-module _ (names : List Text) (s : State) (t d : Token) (rest : List Token) where
-  pub define_missing : length rest < 1 → (define_step names s t rest).reading ≡ stopped 1 (fault.Directive t.at t.name)
-  define_missing none = ap (λ ts. (define_step names s t ts).reading) (nothing_left rest none)
-
-  -- the step by the two tests
-  abbrev by_tests : Bool → Bool → Step
-  by_tests is_there is_refused =
-      if is_there
-      then (if is_refused then faulty 1 (fault.Directive t.at t.name) s else define_as names s (get_or rest 0 d) (take (length rest - 1) (drop 1 rest)) (line_length t.at.line (take (length rest - 1) (drop 1 rest))))
-      else faulty 0 (fault.Directive t.at t.name) s
-
-  split : 1 ≤ length rest → define_step names s t rest ≡ by_tests (is_name (get_or rest 0 d).kind && is_on t.at.line (get_or rest 0 d)) (is_undefinable names (get_or rest 0 d) (take (length rest - 1) (drop 1 rest)))
-  split some = ap (define_step names s t) (split_first rest d some)
-
-  pub define_other : 1 ≤ length rest → (is_name (get_or rest 0 d).kind && is_on t.at.line (get_or rest 0 d)) ≡ false → (define_step names s t rest).reading ≡ stopped 1 (fault.Directive t.at t.name)
-  define_other some other = ap (λ (st : Step). st.reading) (split some ∙ ap (λ b. by_tests b (is_undefinable names (get_or rest 0 d) (take (length rest - 1) (drop 1 rest)))) other)
-
-  pub define_refused : 1 ≤ length rest → (is_name (get_or rest 0 d).kind && is_on t.at.line (get_or rest 0 d)) ≡ true → is_undefinable names (get_or rest 0 d) (take (length rest - 1) (drop 1 rest)) ≡ true
-      → (define_step names s t rest).reading ≡ stopped 2 (fault.Directive t.at t.name)
-  define_refused some there refused =
-      ap (λ (st : Step). st.reading) (split some ∙ ap (λ b. by_tests b (is_undefinable names (get_or rest 0 d) (take (length rest - 1) (drop 1 rest)))) there ∙ ap (by_tests true) refused)
-
-  pub define_there : 1 ≤ length rest → (is_name (get_or rest 0 d).kind && is_on t.at.line (get_or rest 0 d)) ≡ true → is_undefinable names (get_or rest 0 d) (take (length rest - 1) (drop 1 rest)) ≡ false
-      → define_as names s (get_or rest 0 d) (take (length rest - 1) (drop 1 rest)) (line_length t.at.line (take (length rest - 1) (drop 1 rest))) ≡ define_step names s t rest
-  define_there some there fine =
-      sym (split some ∙ ap (λ b. by_tests b (is_undefinable names (get_or rest 0 d) (take (length rest - 1) (drop 1 rest)))) there ∙ ap (by_tests true) fine)
-
--- ---- `else` and `endif`
-
-module _ (names : List Text) (place : Place) (s : State) (t : Token) (shows : Shows names place s) where
-  pub else_outside : length place.branches.items < 1 → (else_by s.branches s t).reading ≡ stopped 1 (fault.StrayElse t.at)
-  else_outside none = ap (λ bs. (else_by bs s t).reading) (stacked_none place.branches.items s.branches shows.stacked none)
-
-  pub endif_outside : length place.branches.items < 1 → (endif_by s.branches s t).reading ≡ stopped 1 (fault.StrayElse t.at)
-  endif_outside none = ap (λ bs. (endif_by bs s t).reading) (stacked_none place.branches.items s.branches shows.stacked none)
-
-  module _ (o : Open) (round : List Open) (is : place.branches.items ≡ round ++ o ∷ []) where
-    top : Top o round s.branches
-    top = stacked_top place.branches.items round o s.branches shows.stacked is
-
-    pub else_again : o.is_else ≡ true → (else_by s.branches s t).reading ≡ stopped 1 (fault.StrayElse t.at)
-    else_again again =
-        ap (λ bs. (else_by bs s t).reading) top.is
-        ∙ ap (λ b. (if b then faulty 0 (fault.StrayElse t.at) s else quiet 0 (record { macros = s.macros; branches = record { at = o.at; taken = not o.taken; is_else = true } ∷ top.below })).reading) again
-
-    module _ (going going' : Going) (place' : Place) (same_table : place'.table ≡ place.table) (went : Went going going' (silent 1)) where
-      pub else_turned : (p : Open) → o.is_else ≡ false → place'.branches.items ≡ round ++ p ∷ [] → branch_of p ≡ record { at = o.at; taken = not o.taken; is_else = true } → p.outer ≡ o.outer → Stepped names going going' place' 0 (else_by s.branches s t)
-      else_turned p first turned same same_outer =
-          let after : State = record { macros = s.macros; branches = record { at = o.at; taken = not o.taken; is_else = true } ∷ top.below } in
-          let step_is : else_by s.branches s t ≡ quiet 0 after =
-          ap (λ bs. else_by bs s t) top.is ∙ ap (λ b. if b then faulty 0 (fault.StrayElse t.at) s else quiet 0 after) first in
-          subst (λ st. Stepped names going going' place' 0 st) (sym step_is) (record {
-            went = went;
-            more_is = refl;
-            shows = record {
-              kept = subst (λ table. Keeps names table s.macros) (sym same_table) shows.kept;
-              stacked = (p, round, turned, sym same, same_outer ∙ top.outer, top.stacked);
-            };
-          })
-
-      pub endif_closed : place'.branches.items ≡ round → Stepped names going going' place' 0 (endif_by s.branches s t)
-      endif_closed closed =
-          subst (λ bs. Stepped names going going' place' 0 (endif_by bs s t)) (sym top.is) (record {
-            went = went;
-            more_is = refl;
-            shows = record {
-              kept = subst (λ table. Keeps names table s.macros) (sym same_table) shows.kept;
-              stacked = subst (λ opens. Stacked opens top.below) (sym closed) top.stacked;
-            };
-          })
 
 -- ---- `ifdef` and `ifndef`
 

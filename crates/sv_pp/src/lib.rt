@@ -16,7 +16,11 @@
 //! of a macro's text get the place of the use that stands in the file, and so do the faults in them.
 //!
 //! `specs/Reading.antt` says what the use of a macro gives, `specs/Active.antt` what a token of a
-//! file does in the state that those before it left, and `specs/Answer.antt` what is answered.
+//! file does in the state that those before it left, and `specs/Answer.antt` what is answered. Two
+//! calls that do nothing, [`tokens_or_fault`] and [`one_answer`], say by their clauses that files
+//! have an answer and only one. How the code's values show the definitions' stands in
+//! `specs/Shown.antt` and `specs/Table.antt`, and no caller needs it; laws for callers whose table of
+//! names grows between files stand in `specs/NamedLaws.antt`.
 //!
 //! The time is in proportion to the tokens read, of which there are at most 1,000,000. Each macro's
 //! text is kept once; besides it, a slot for each name and the list of active tokens are the memory.
