@@ -1,5 +1,5 @@
 -- Steps of the code in a file: what the place shows after each.
-use Rattle.std.specs.Prelude.{◌≡◌, ◌≤◌, ◌<◌, ℕ, zero, suc, ◌+◌, ◌-◌, Bool, true, false, not, ◌&&◌, if◌then◌else◌, List, [], ◌∷◌, ◌++◌, length, get_or, slice_index_or, slice_get, take, set, Option, Some, None, Result, Ok, Err}
+use Rattle.std.specs.Prelude.{◌≡◌, ◌≤◌, ◌<◌, ℕ, zero, suc, ◌+◌, ◌-◌, Bool, true, false, not, ◌&&◌, if◌then◌else◌, List, [], ◌∷◌, ◌++◌, length, get_or, slice_index_or, slice_get, take, set, Option, Some, None}
 use Rattle.std.specs.List.{list_all}
 use Rattle.std.specs.Option.{option_map, is_some}
 use Rattle.std.proofs.Common.{refl, sym, ap, ◌∙◌, subst, arith, length-append}
@@ -12,7 +12,6 @@ use mathlib.Core.Bool.{beq}
 use Rattle.sv_tree.specs.declared.token.Token.{Token}
 use Rattle.sv_tree.specs.NameLaws.{get_or-slice_get}
 use Rattle.sv_tree.specs.Tokens.{AreNamed}
-use Rattle.sv_pp.specs.declared.fault.PpFault.{PpFault}
 use Rattle.sv_pp.specs.declared.fault.PpFault.TheVariants as fault
 use Rattle.sv_pp.specs.declared.file.Open.{Open}
 use Rattle.sv_pp.specs.declared.file.Place.{Place}
@@ -21,7 +20,7 @@ use Rattle.sv_pp.specs.Directive.{Text}
 use Rattle.sv_pp.specs.Reading.{Reading, silent, stopped, text_of, with_macro, is_name}
 use Rattle.sv_pp.specs.Active.{Branch, State, Step, is_taken, quiet, faulty, line_length, define_as, named_step, undef_as, open_as, is_defined, outermost, end_reading}
 use Rattle.sv_pp.specs.Table.{Keeps}
-use Rattle.sv_pp.specs.Shown.{Went, Stops, Stacked, Shows, Stepped, Takes, branch_of, test_of}
+use Rattle.sv_pp.specs.Shown.{Went, Stacked, Shows, Stepped, branch_of, test_of}
 use Rattle.sv_pp.proofs.Laws.{split_first, first_named}
 use Rattle.sv_pp.proofs.Tables.{keeps_set}
 
@@ -66,13 +65,7 @@ pub end_open : (opens : List Open) (bs : List Branch) (d : Open) (next : Reading
 end_open opens [] d next stacked some = absurd (omega (arith, ap length stacked))
 end_open opens (b ∷ bs) d next stacked some = ap (λ at. stopped 0 (fault.OpenIf at)) (sym (first_is_outermost bs b opens d stacked))
 
--- ---- answers
-
--- a step that is the same at each state that the place shows
-pub takes_as : (names : List Text) (place place' : Place) (going going' : Going) (result : Result ℕ PpFault) (step step' : State → Step) → ((s : State) → Shows names place s → step s ≡ step' s) → Takes names place going place' going' result step
-    → Takes names place going place' going' result step'
-takes_as names place place' going going' (Ok more) step step' same takes = λ s shows. subst (λ st. Stepped names going going' place' more st) (same s shows) (takes s shows)
-takes_as names place place' going going' (Err f) step step' same takes = λ s shows. subst (λ (st : Step). Stops going st.reading f) (same s shows) (takes s shows)
+-- ---- steps
 
 -- so many tokens were read, and the place shows the state after them
 pub stepped_quietly : (names : List Text) (going going' : Going) (place' : Place) (n m more : ℕ) (after : State) → n ≡ suc m → more ≡ m → Went going going' (silent n) → Shows names place' after → Stepped names going going' place' more (quiet m after)

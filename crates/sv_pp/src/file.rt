@@ -7,7 +7,7 @@ ghost use Rattle.sv_pp.specs.Active as spec;
 ghost use Rattle.sv_pp.specs.Active.{State, Branch};
 ghost use Rattle.sv_pp.specs.Reading.{Macros, silent, stopped};
 ghost use Rattle.sv_pp.specs.Reading as said;
-ghost use Rattle.sv_pp.specs.Directive.{role_of};
+ghost use Rattle.sv_pp.specs.Directive.{Text, role_of};
 ghost use Rattle.sv_pp.specs.Shown.{Stacked, Shows, Went, Stops, Takes, ReadsFile, test_of};
 ghost use Rattle.sv_pp.specs.Answer.{AllNamed, ReadsAs, FaultIs};
 
@@ -234,13 +234,8 @@ fn open_if(
 }
 
 /// Turns to the other branch of the innermost.
-fn turn(
-    names: &Names,
-    place: &mut Place,
-    going: &mut Going,
-    token: &Token,
-) -> Result<usize, PpFault>
-    ensures { Takes names.now place.old going.old place.new going.new result (λ s. spec.else_by s.branches s token.now) }
+fn turn(place: &mut Place, going: &mut Going, token: &Token) -> Result<usize, PpFault>
+    ensures { (names : List Text) → Takes names place.old going.old place.new going.new result (λ s. spec.else_by s.branches s token.now) }
 {
     if let Err(fault) = going.read(1) {
         return Err(fault);
@@ -264,13 +259,8 @@ fn turn(
 }
 
 /// Closes the innermost branch.
-fn close(
-    names: &Names,
-    place: &mut Place,
-    going: &mut Going,
-    token: &Token,
-) -> Result<usize, PpFault>
-    ensures { Takes names.now place.old going.old place.new going.new result (λ s. spec.endif_by s.branches s token.now) }
+fn close(place: &mut Place, going: &mut Going, token: &Token) -> Result<usize, PpFault>
+    ensures { (names : List Text) → Takes names place.old going.old place.new going.new result (λ s. spec.endif_by s.branches s token.now) }
 {
     if let Err(fault) = going.read(1) {
         return Err(fault);
@@ -309,8 +299,8 @@ fn skip_directive(
     match role_of(named_by(names, token)) {
         Role::Ifdef => open_if(names, place, going, true, token, rest),
         Role::Ifndef => open_if(names, place, going, false, token, rest),
-        Role::Else => turn(names, place, going, token),
-        Role::Endif => close(names, place, going, token),
+        Role::Else => turn(place, going, token),
+        Role::Endif => close(place, going, token),
         _ => skip(going, 0),
     }
 }
@@ -351,8 +341,8 @@ fn read_directive(
         Role::Undef => undef(names, place, going, token, rest),
         Role::Ifdef => open_if(names, place, going, true, token, rest),
         Role::Ifndef => open_if(names, place, going, false, token, rest),
-        Role::Else => turn(names, place, going, token),
-        Role::Endif => close(names, place, going, token),
+        Role::Else => turn(place, going, token),
+        Role::Endif => close(place, going, token),
         Role::Ignored => skip(going, line_length(token.at.line, rest)),
         Role::Refused => refuse(going, 1, token),
         Role::Use => use_in_file(names, place, going, token),
@@ -360,13 +350,8 @@ fn read_directive(
 }
 
 /// Reads a token that is no directive.
-fn read_plain(
-    names: &Names,
-    place: &Place,
-    going: &mut Going,
-    token: &Token,
-) -> Result<usize, PpFault>
-    ensures { Takes names.now place.now going.old place.now going.new result (λ s. spec.plain_step s token.now) }
+fn read_plain(place: &Place, going: &mut Going, token: &Token) -> Result<usize, PpFault>
+    ensures { (names : List Text) → Takes names place.now going.old place.now going.new result (λ s. spec.plain_step s token.now) }
 {
     if !is_active(&place.branches) {
         return skip(going, 0);
@@ -392,7 +377,7 @@ fn step(
     ensures { Takes names.now place.old going.old place.new going.new result (λ s. spec.step names.now s token.now rest.now) }
 {
     if token.kind != TokenKind::Directive {
-        return read_plain(names, place, going, token);
+        return read_plain(place, going, token);
     }
     if is_active(&place.branches) {
         return read_directive(alloc, names, place, going, token, rest);
