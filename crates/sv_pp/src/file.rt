@@ -112,17 +112,14 @@ fn refuse(going: &mut Going, count: usize, token: &Token) -> Result<usize, PpFau
 /// Reads a definition after its name.
 fn define_as(
     alloc: Global,
-    names: &Names,
     place: &mut Place,
     going: &mut Going,
     line: u32,
     name: &Token,
     rest: &[Token],
 ) -> Result<usize, PpFault>
-    requires name { name.now.name.0 < length names.now }
-    requires named { AreNamed names.now rest.now }
-    requires shown { (s : State) × Shows names.now place.old s }
-    ensures { Takes names.now place.old going.old place.new going.new result (λ s. spec.define_as names.now s name.now rest.now (spec.line_length line rest.now)) }
+    requires { name.now.name.0 < length place.old.table }
+    ensures { (names : List Text) → name.now.name.0 < length names → AreNamed names rest.now → Takes names place.old going.old place.new going.new result (λ s. spec.define_as names s name.now rest.now (spec.line_length line rest.now)) }
 {
     let more = line_length(line, rest);
     if let Err(fault) = going.read(more + 2) {
@@ -156,20 +153,18 @@ fn define(
     if is_undefinable(names, name, more) {
         return refuse(going, 2, token);
     }
-    define_as(alloc, names, place, going, token.at.line, name, more)
+    define_as(alloc, place, going, token.at.line, name, more)
 }
 
 /// Reads an `` `undef ``.
 fn undef(
-    names: &Names,
     place: &mut Place,
     going: &mut Going,
     token: &Token,
     rest: &[Token],
 ) -> Result<usize, PpFault>
-    requires named { AreNamed names.now rest.now }
-    requires shown { (s : State) × Shows names.now place.old s }
-    ensures { Takes names.now place.old going.old place.new going.new result (λ s. spec.undef_step names.now s token.now rest.now) }
+    requires { (names : List Text) × AreNamed names rest.now × (length place.old.table ≡ length names) }
+    ensures { (names : List Text) → AreNamed names rest.now → Takes names place.old going.old place.new going.new result (λ s. spec.undef_step names s token.now rest.now) }
 {
     let [name, ..] = rest else {
         return refuse(going, 1, token);
@@ -338,7 +333,7 @@ fn read_directive(
 {
     match role_of(named_by(names, token)) {
         Role::Define => define(alloc, names, place, going, token, rest),
-        Role::Undef => undef(names, place, going, token, rest),
+        Role::Undef => undef(place, going, token, rest),
         Role::Ifdef => open_if(names, place, going, true, token, rest),
         Role::Ifndef => open_if(names, place, going, false, token, rest),
         Role::Else => turn(place, going, token),

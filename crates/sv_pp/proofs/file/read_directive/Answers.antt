@@ -12,7 +12,7 @@ returns-in-Define c =
 pub returns-in-Undef : goal.returns-in-Undef
 returns-in-Undef c =
     let a = c.args in
-    subst (λ role. Takes a.names.now a.place.now a.going.now c.undef.new.place c.undef.new.going c.undef.result (λ s. directive_step a.names.now s role a.token.now a.rest.now)) (sym c.in-Undef.is ∙ c.role_of.ensures ∙ ap role_of c.named_by.ensures) c.undef.ensures
+    subst (λ role. Takes a.names.now a.place.now a.going.now c.undef.new.place c.undef.new.going c.undef.result (λ s. directive_step a.names.now s role a.token.now a.rest.now)) (sym c.in-Undef.is ∙ c.role_of.ensures ∙ ap role_of c.named_by.ensures) (c.undef.ensures a.names.now c.requires.named)
 
 pub returns-in-Endif : goal.returns-in-Endif
 returns-in-Endif c =
