@@ -5,3 +5,4 @@ pub mod Places
 pub mod Files
 pub mod Every
 pub mod Answers
+pub mod Plain

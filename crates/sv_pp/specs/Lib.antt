@@ -5,3 +5,4 @@ pub mod Answer
 pub mod Table
 pub mod Shown
 pub mod NamedLaws
+pub mod Plain

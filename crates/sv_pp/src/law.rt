@@ -7,6 +7,7 @@ ghost use Rattle.sv_pp.specs.declared.fault.PpFault.TheVariants.{NoMemory};
 ghost use Rattle.sv_pp.specs.Directive.{Text};
 ghost use Rattle.sv_pp.specs.Reading.{Reading};
 ghost use Rattle.sv_pp.specs.Active.{reading};
+ghost use Rattle.sv_pp.specs.Plain.{AllPlain, all_tokens, as_they_stand};
 ghost use Rattle.sv_pp.specs.Answer.{AllNamed, ReadsAs, FaultIs};
 
 /// Files have active tokens, or a fault.
@@ -20,3 +21,9 @@ pub fn one_answer()
     ensures fault { (most : ℕ) (f g : PpFault) (r : Reading) → f ≢ NoMemory → g ≢ NoMemory → FaultIs most f r → FaultIs most g r → f ≡ g }
     ensures apart { (most : ℕ) (tokens : List Token) (f : PpFault) (r : Reading) → ReadsAs most tokens r → FaultIs most f r → f ≡ NoMemory }
 {}
+
+/// Files in which no directive stands are left as they are.
+pub fn plain_files()
+    ensures { (names : List Text) (files : List (List Token)) → AllPlain files → reading names files ≡ as_they_stand (all_tokens files) }
+{
+}

@@ -16,9 +16,9 @@
 //! of a macro's text get the place of the use that stands in the file, and so do the faults in them.
 //!
 //! `specs/Reading.antt` says what the use of a macro gives, `specs/Active.antt` what a token of a
-//! file does in the state that those before it left, and `specs/Answer.antt` what is answered. Two
-//! calls that do nothing, [`tokens_or_fault`] and [`one_answer`], say by their clauses that files
-//! have an answer and only one. How the code's values show the definitions' stands in
+//! file does in the state that those before it left, and `specs/Answer.antt` what is answered. Three
+//! calls that do nothing, [`tokens_or_fault`], [`one_answer`] and [`plain_files`], say by their
+//! clauses that files have an answer, only one, and are left as they are without directives. How the code's values show the definitions' stands in
 //! `specs/Shown.antt` and `specs/Table.antt`, and no caller needs it; laws for callers whose table of
 //! names grows between files stand in `specs/NamedLaws.antt`.
 //!
@@ -46,7 +46,7 @@ mod reading;
 pub use directive::{Role, role_of};
 pub use fault::PpFault;
 pub use file::{preprocess, preprocess_up_to};
-pub use law::{one_answer, tokens_or_fault};
+pub use law::{one_answer, plain_files, tokens_or_fault};
 
 #[cfg(test)]
 mod tests;
