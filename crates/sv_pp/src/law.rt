@@ -7,7 +7,7 @@ ghost use Rattle.sv_pp.specs.declared.fault.PpFault.TheVariants.{NoMemory};
 ghost use Rattle.sv_pp.specs.Directive.{Text};
 ghost use Rattle.sv_pp.specs.Reading.{Reading};
 ghost use Rattle.sv_pp.specs.Active.{reading};
-ghost use Rattle.sv_pp.specs.Plain.{AllPlain, all_tokens, as_they_stand};
+ghost use Rattle.sv_pp.specs.Plain.{AllPlain, TakesOneBranch, all_tokens, as_they_stand};
 ghost use Rattle.sv_pp.specs.Answer.{AllNamed, ReadsAs, FaultIs};
 
 /// Files have active tokens, or a fault.
@@ -25,5 +25,9 @@ pub fn one_answer()
 /// Files in which no directive stands are left as they are.
 pub fn plain_files()
     ensures { (names : List Text) (files : List (List Token)) → AllPlain files → reading names files ≡ as_they_stand (all_tokens files) }
-{
-}
+{}
+
+/// Of `` `ifdef NAME first `else second `endif `` the first branch is active where the name is defined, and else the second.
+pub fn conditional()
+    ensures { TakesOneBranch }
+{}

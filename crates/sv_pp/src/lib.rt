@@ -16,11 +16,14 @@
 //! of a macro's text get the place of the use that stands in the file, and so do the faults in them.
 //!
 //! `specs/Reading.antt` says what the use of a macro gives, `specs/Active.antt` what a token of a
-//! file does in the state that those before it left, and `specs/Answer.antt` what is answered. Three
-//! calls that do nothing, [`tokens_or_fault`], [`one_answer`] and [`plain_files`], say by their
-//! clauses that files have an answer, only one, and are left as they are without directives. How the code's values show the definitions' stands in
-//! `specs/Shown.antt` and `specs/Table.antt`, and no caller needs it; laws for callers whose table of
-//! names grows between files stand in `specs/NamedLaws.antt`.
+//! file does in the state that those before it left, and `specs/Answer.antt` what is answered. Four
+//! calls that do nothing say laws of these by their clauses: files have an answer
+//! ([`tokens_or_fault`]) and only one ([`one_answer`]), files without directives are left as they
+//! are ([`plain_files`]), and of a conditional one branch is active ([`conditional`]).
+//!
+//! How the code's values show those of the definitions stands in `specs/Shown.antt` and
+//! `specs/Table.antt`; no caller needs it. `specs/NamedLaws.antt` has laws for callers whose table of
+//! names grows between files.
 //!
 //! The time is in proportion to the tokens read, of which there are at most 1,000,000. Each macro's
 //! text is kept once; besides it, a slot for each name and the list of active tokens are the memory.
@@ -46,7 +49,7 @@ mod reading;
 pub use directive::{Role, role_of};
 pub use fault::PpFault;
 pub use file::{preprocess, preprocess_up_to};
-pub use law::{one_answer, plain_files, tokens_or_fault};
+pub use law::{conditional, one_answer, plain_files, tokens_or_fault};
 
 #[cfg(test)]
 mod tests;

@@ -362,5 +362,6 @@ fn directives_have_fourteen_names(rt: HostRuntime) -> Result<(), PpFault> {
     tokens_or_fault();
     one_answer();
     plain_files();
+    conditional();
     Ok(())
 }
