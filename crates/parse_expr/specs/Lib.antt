@@ -1,0 +1,4 @@
+pub mod Input
+pub mod Lexemes
+pub mod Parsed
+pub mod ParsedLaws

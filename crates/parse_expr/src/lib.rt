@@ -1,0 +1,39 @@
+//! The base of a parser by recursive descent, and its part for expressions, types and what is
+//! assigned (IEEE 1800-2017 A.2.2.1, A.8).
+//!
+//! In come tokens with the table of their names; out come parts of the syntax tree of [`sv_tree`],
+//! or the fault.
+//!
+//! # How a function of the parser is written
+//!
+//! A [`Source`] holds the tokens, each looked up once. A *place* is the number of a token, or at
+//! the end the count of them. Each function takes the source, the place as `at: &mut usize` and
+//! the *depth*: how many things that count for depth it stands in, at most 128.
+//!
+//! ```text
+//! pub fn setting(source: &Source<'_>, at: &mut usize, depth: u32) -> Result<Setting, ParseFault>
+//!     requires deep { depth ≤ 128 }
+//!     requires within { at.old ≤ length source.now.tokens }
+//!     ensures reads { IfOk result (λ x. Parsed source.now depth at.old at.new (setting x)) }
+//!     ensures fault { IfErr result (λ f. IsWithin source.now f) }
+//! ```
+//!
+//! `Parsed` (`specs/Parsed.antt`) says that the tokens between two places are a part of the tree:
+//! they are its tokens in order, each is what its place asks, and none stands in more than 128
+//! things. `specs/ParsedLaws.antt` has the laws by which parts that were parsed make a whole:
+//! tokens (`token_at`, `one_at`), one part after another (`and`), a thing that counts for depth
+//! (`deep`), parts that may be there (`absent`, `present`), and lists (`each_none`, `each_more`).
+//!
+//! One token of look-ahead decides everywhere: [`Source::peek`] or [`Source::sees`], and then
+//! [`Source::take`], [`Source::expect`] or [`Source::take_if`]. A thing that counts for depth is
+//! entered by [`inside`], with the place of its first token, after the test that this token may
+//! begin it: so a syntax error is told before a tree that is too deep.
+#![tactic(auto)]
+
+mod fault;
+mod memory;
+mod source;
+
+pub use fault::ParseFault;
+pub use memory::{boxed, push};
+pub use source::{Source, inside, syntax};
