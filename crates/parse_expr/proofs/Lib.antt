@@ -1,2 +1,7 @@
-pub mod Lexemes
+pub mod Closings
 pub mod Compared
+pub mod Lexemes
+pub mod Rules
+pub mod Spelled
+pub mod TargetRules
+pub mod TypeRules

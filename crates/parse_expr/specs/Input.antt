@@ -1,5 +1,5 @@
 -- What is parsed: a list of tokens, with the table of their names.
-use Rattle.std.specs.Prelude.{◌≡◌, ◌≤◌, ℕ, true, false, ◌⊎◌, List, [], ◌∷◌, length, drop, min}
+use Rattle.std.specs.Prelude.{◌≡◌, ◌≤◌, ◌<◌, ℕ, true, false, ◌⊎◌, List, [], ◌∷◌, length, drop, min}
 use Rattle.sv_tree.specs.declared.symbol.Symbol.{Symbol}
 use Rattle.sv_tree.specs.declared.symbol.Symbol.TheVariants as sym
 use Rattle.sv_tree.specs.declared.token.Token.{Token}
@@ -29,7 +29,7 @@ symbol_at x at = first_symbol (symbols x) (drop at x.tokens)
 pub record Takes (x : Input) (start end : ℕ) (t : Token) : Type 0 where
   pub is : drop start x.tokens ≡ t ∷ drop end x.tokens
   pub symbol : symbols x t ≡ symbol_at x start
-  pub forward : start ≤ end
+  pub forward : start < end
   pub within : end ≤ length x.tokens
 
 -- it was the symbol that is asked there

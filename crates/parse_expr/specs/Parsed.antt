@@ -18,9 +18,10 @@ pub record Parsed (x : Input) (depth start end : ℕ) (part : Read) : Type 0 whe
   pub forward : start ≤ end
   pub within : end ≤ length x.tokens
 
--- an expression that binds so tightly: 0 a primary, 1 with prefix operators, one more than the level of its operators
-pub record BindsWithin (x : Input) (rank : ℕ) (e : ExprRead) : Type 0 where
-  pub within : nat_le (e.rank (symbols x)) rank ≡ true
+-- The same of an expression that binds at least so tightly: 0 a primary, 1 with prefix operators, one more than the level of its operators.
+pub record ParsedExpr (x : Input) (depth start end rank : ℕ) (e : ExprRead) : Type 0 where
+  pub text : Parsed x depth start end e.text
+  pub binds : nat_le (e.rank (symbols x)) rank ≡ true
 
 -- a fault of parsing names a token, or the end of the tokens
 abbrev pub IsWithin : Input → ParseFault → Type 0

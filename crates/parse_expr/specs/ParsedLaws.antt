@@ -19,7 +19,7 @@ module _ {x : Input} {d a b : ℕ} {t : Token} where
     prints = takes.is;
     shaped = ap is takes.symbol ∙ asked;
     shallow = λ l h. omega arith;
-    forward = takes.forward;
+    forward = omega (arith, takes.forward);
     within = takes.within;
   }
 
@@ -28,7 +28,7 @@ module _ {x : Input} {d a b : ℕ} {t : Token} where
     prints = takes.is;
     shaped = refl;
     shallow = λ l h. omega arith;
-    forward = takes.forward;
+    forward = omega (arith, takes.forward);
     within = takes.within;
   }
 
@@ -38,7 +38,7 @@ module _ {x : Input} {d a b : ℕ} {t : Token} where
     prints = h.takes.is;
     shaped = h.asked;
     shallow = λ l k. omega arith;
-    forward = h.takes.forward;
+    forward = omega (arith, h.takes.forward);
     within = h.takes.within;
   }
 
@@ -70,6 +70,21 @@ module _ {x : Input} {d a b : ℕ} {p : Read} where
   pub by : {q : Read} → q ≡ p → Parsed x d a b p → Parsed x d a b q
   by e h = subst (λ r. Parsed x d a b r) (sym e) h
 
+all_true : (a b c : Bool) → (a && b) && c ≡ true → a && (b && c) ≡ true
+all_true true true c h = h
+all_true true false c h = h
+all_true false b c h = h
+
+-- three parts, grouped as they are written
+pub grouped : {x : Input} {d a b : ℕ} (p q r : Read) → Parsed x d a b ((p then q) then r) → Parsed x d a b (p then q then r)
+grouped {x} p q r h = record {
+  prints = h.prints;
+  shaped = all_true (p.shaped (symbols x)) (q.shaped (symbols x)) (r.shaped (symbols x)) h.shaped;
+  shallow = h.shallow;
+  forward = h.forward;
+  within = h.within;
+}
+
 module _ {x : Input} {d a : ℕ} where
   -- no token, and what is asked of the parts beside it
   pub asking : (c : Symbols → Bool) → a ≤ length x.tokens → c (symbols x) ≡ true → Parsed x d a a (asks c)
@@ -95,24 +110,47 @@ lay-more : {A : Type 0} (f : A → ℕ → List Laid → List Laid) (ys : List A
 lay-more f [] y d l = refl
 lay-more f (z ∷ zs) y d l = ap (f z d) (lay-more f zs y d l)
 
-shaped-more : {A : Type 0} (f : A → Symbols → Bool) (ys : List A) (y : A) (s : Symbols) → each_shaped f ys s ≡ true → f y s ≡ true → each_shaped f (ys ++ y ∷ []) s ≡ true
-shaped-more f [] y s h k = rw k refl
-shaped-more f (z ∷ zs) y s h k = both_true (f z s) _ (front (f z s) _ h) (shaped-more f zs y s (rest (f z s) _ h) k)
+front_true : (a b : Bool) → a && b ≡ true → a ≡ true
+front_true true b e = refl
+front_true false b e = e
+
+shaped-more : {A : Type 0} (f : A → Symbols → Bool) (ys : List A) (y : A) (s : Symbols) → each_shaped f ys s && f y s ≡ true → each_shaped f (ys ++ y ∷ []) s ≡ true
+shaped-more f [] y s h = rw h refl
+shaped-more f (z ∷ zs) y s h = shifted (f z s) (each_shaped f zs s) (f y s) h (shaped-more f zs y s)
   where
-    front : (a b : Bool) → a && b ≡ true → a ≡ true
-    front true b e = refl
-    front false b e = cc
+    shifted : (a b c : Bool) {e : Bool} → (a && b) && c ≡ true → (b && c ≡ true → e ≡ true) → a && e ≡ true
+    shifted true b c h k = k h
+    shifted false b c h k = h
 
-    rest : (a b : Bool) → a && b ≡ true → b ≡ true
-    rest true b e = e
-    rest false b e = cc
+module _ {x : Input} {d a b : ℕ} {A : Type 0} (f : A → Read) where
+  pub each_last : (ys : List A) (y : A) → Parsed x d a b (each f ys then f y) → Parsed x d a b (each f (ys ++ y ∷ []))
+  each_last ys y h = record {
+    prints = h.prints ∙ sym (print-more (λ z. (f z).print) ys y (drop b x.tokens));
+    shaped = shaped-more (λ z. (f z).shaped) ys y (symbols x) h.shaped;
+    shallow = λ l e. subst (λ m. deepest m ≤ 128) (sym (lay-more (λ z. (f z).laid) ys y d l)) (h.shallow l e);
+    forward = h.forward;
+    within = h.within;
+  }
 
-module _ {x : Input} {d a b c : ℕ} where
-  pub each_more : {A : Type 0} (f : A → Read) (ys : List A) (y : A) → Parsed x d a b (each f ys) → Parsed x d b c (f y) → Parsed x d a c (each f (ys ++ y ∷ []))
-  each_more f ys y h k = record {
-    prints = h.prints ∙ ap (print_each (λ z. (f z).print) ys) k.prints ∙ sym (print-more (λ z. (f z).print) ys y (drop c x.tokens));
-    shaped = shaped-more (λ z. (f z).shaped) ys y (symbols x) h.shaped k.shaped;
-    shallow = λ l e. subst (λ m. deepest m ≤ 128) (sym (lay-more (λ z. (f z).laid) ys y d l)) (h.shallow _ (k.shallow l e));
+  -- an empty list beside a part
+  pub none_before : {c : ℕ} {p : Read} → Parsed x d a b (each f []) → Parsed x d b c p → Parsed x d a c p
+  none_before h k = record {
+    prints = h.prints ∙ k.prints;
+    shaped = k.shaped;
+    shallow = k.shallow;
     forward = omega (arith, h.forward, k.forward);
     within = k.within;
   }
+
+  pub none_after : (p : Read) → Parsed x d a b (p then each f []) → Parsed x d a b p
+  none_after p h = record {
+    prints = h.prints;
+    shaped = front_true (p.shaped (symbols x)) true h.shaped;
+    shallow = h.shallow;
+    forward = h.forward;
+    within = h.within;
+  }
+
+module _ {x : Input} {d a b c : ℕ} where
+  pub each_more : {A : Type 0} (f : A → Read) (ys : List A) (y : A) → Parsed x d a b (each f ys) → Parsed x d b c (f y) → Parsed x d a c (each f (ys ++ y ∷ []))
+  each_more f ys y h k = each_last f ys y (h and k)

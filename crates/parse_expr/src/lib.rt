@@ -30,10 +30,26 @@
 //! begin it: so a syntax error is told before a tree that is too deep.
 #![tactic(auto)]
 
+mod class;
+mod expression;
 mod fault;
+mod joined;
 mod memory;
+mod operand;
 mod source;
+mod subset;
+mod target;
+mod words;
 
+pub use class::{begins_expr, begins_type, is_fixed, is_vector, level_of};
+pub use expression::{args, expr, list, selects};
 pub use fault::ParseFault;
 pub use memory::{boxed, push};
-pub use source::{Source, inside, syntax};
+pub use operand::Operands;
+pub use source::{Source, enter, inside, syntax};
+pub use subset::outside;
+pub use target::lvalue;
+pub use words::{
+    argument_type, data_type, data_type_if, dimension, dimension_if, fixed_type, initial,
+    initial_if, label, label_if, range, range_if, result_type, setting, variable_type,
+};

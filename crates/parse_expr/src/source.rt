@@ -1,6 +1,6 @@
 //! The tokens that are read, and taking one of them.
 
-ghost use Rattle.std.specs.Prelude.{◌≡◌, ◌≤◌, ◌+◌, ℕ, length, IfOk, IfErr, MatchOption, true, false};
+ghost use Rattle.std.specs.Prelude.{◌≡◌, ◌≤◌, ◌+◌, ℕ, length, IfOk, OnOk, IfErr, MatchOption, true, ◌⊎◌, false};
 ghost use Rattle.sv_tree.specs.Symbol.{same};
 ghost use Rattle.sv_tree.specs.Tokens.{AreNamed};
 ghost use Rattle.parse_expr.specs.Input.{Takes, TakesThe, IsAnother, symbol_at, number};
@@ -161,4 +161,27 @@ pub fn inside(at: usize, depth: u32) -> Result<u32, ParseFault>
         return Err(ParseFault::TooDeep(u32::try_from(at).unwrap_or(u32::MAX)));
     }
     Ok(depth + 1)
+}
+
+/// Takes the first token of a thing that counts for depth, which stands in so many things itself.
+///
+/// `Syntax`: it is not the symbol. `TooDeep`: it is, and stands in more than 128 things.
+pub fn enter(
+    source: &Source<'_>,
+    at: &mut usize,
+    depth: u32,
+    symbol: Symbol,
+) -> Result<Token, ParseFault>
+    requires deep { depth ≤ 128 }
+    requires within { at.old ≤ length source.now.tokens }
+    ensures token { IfOk result (λ t. TakesThe source.now symbol at.old at.new t) }
+    ensures deep { OnOk result (depth + 1 ≤ 128) }
+    ensures fault { IfErr result (λ f. ((f ≡ ParseFault.Syntax (number at.old)) × IsAnother source.now symbol at.old)
+        ⊎ ((f ≡ ParseFault.TooDeep (number at.old)) × (depth ≡ 128) × (same symbol (symbol_at source.now at.old) ≡ true))) }
+{
+    if !source.sees(*at, symbol) {
+        return Err(syntax(*at));
+    }
+    inside(*at, depth)?;
+    source.expect(at, symbol)
 }

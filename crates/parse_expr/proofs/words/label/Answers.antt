@@ -1,0 +1,5 @@
+use Rattle.parse_expr.specs.ParsedLaws.{token_at, ◌and◌}
+use Rattle.parse_expr.proofs.words.label.Goals as goal
+
+pub returns-clause-reads : goal.returns-clause-reads
+returns-clause-reads c = token_at c.requires.deep c.in_ok-colon.ensures.token and token_at c.requires.deep c.in_ok-name.ensures.token

@@ -1,0 +1,6 @@
+use Rattle.parse_expr.specs.ParsedLaws.{token_at, ◌and◌}
+use Rattle.parse_expr.proofs.words.setting.Goals as goal
+
+pub returns-clause-reads : goal.returns-clause-reads
+returns-clause-reads c =
+    token_at c.requires.deep c.in_ok-name.ensures.token and token_at c.requires.deep c.in_ok-mark.ensures.token and c.in_ok-value.ensures.reads
