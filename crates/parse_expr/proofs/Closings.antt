@@ -1,5 +1,5 @@
 -- The same rules for the answers of the functions that close a form.
-use Rattle.std.proofs.Common.{◌≡◌, ◌≤◌, ◌<◌, ℕ, ◌+◌, List, [], ◌∷◌, Result, IfOk, OnOk, true, length, map, refl, sym, subst, arith}
+use Rattle.std.proofs.Common.{◌≡◌, ◌≤◌, ◌<◌, ℕ, ◌+◌, List, [], ◌∷◌, Result, IfOk, OnOk, true, length, refl, sym, subst, arith}
 use Rattle.std.proofs.lemmas.Result.{IfOk-weaker}
 use Rattle.sv_tree.specs.declared.symbol.Symbol.{Symbol}
 use Rattle.sv_tree.specs.declared.symbol.Symbol.TheVariants as symbol
@@ -12,14 +12,14 @@ use Rattle.sv_tree.specs.declared.tree.expr.Step.{Step}
 use Rattle.sv_tree.specs.declared.tree.expr.Expr.TheVariants as expression
 use Rattle.sv_tree.specs.declared.tree.expr.Args.TheVariants as arguments
 use Rattle.sv_tree.specs.declared.tree.expr.Select.TheVariants as selected
-use Rattle.sv_tree.specs.Symbol.{is_prefix, is_part}
-use Rattle.sv_tree.specs.TreeRead.{one_of, ◌then◌, each}
-use Rattle.sv_tree.specs.TreeExpr.{args_read, expr_read, select_read, step_read, expr, steps}
+use Rattle.sv_tree.specs.Symbol.{is_part}
+use Rattle.sv_tree.specs.TreeRead.{◌then◌}
+use Rattle.sv_tree.specs.TreeExpr.{args_read, expr_read, select_read, expr, steps}
 use Rattle.parse_expr.specs.declared.fault.ParseFault.{ParseFault}
 use Rattle.parse_expr.specs.Input.{Input, symbol_at, Takes, TakesThe}
-use Rattle.parse_expr.specs.Made.{prefixed, levelled, chosen, Closes, ClosesTwice}
+use Rattle.parse_expr.specs.Made.{chosen, Closes, ClosesTwice}
 use Rattle.parse_expr.specs.Parsed.{Parsed, ParsedExpr}
-use Rattle.parse_expr.proofs.Rules.{Operated, Tested, rule_paren, rule_system, rule_call, rule_concat, rule_repeat, rule_bit, rule_part, rule_prefixed, rule_levelled, rule_chosen, rule_args}
+use Rattle.parse_expr.proofs.Rules.{Tested, rule_paren, rule_system, rule_call, rule_concat, rule_repeat, rule_bit, rule_part, rule_chosen, rule_args}
 
 pub is_none : {A : Type 0} (xs : List A) → length xs ≤ 0 → xs ≡ []
 is_none [] h = refl
@@ -71,14 +71,6 @@ module _ {x : Input} {a b c e f : ℕ} {opening inner_opening : Token} (d g : �
       (λ m j. rule_repeat count first none more m within empty h k i n j)
 
 module _ {x : Input} {d a b : ℕ} where
-  pub makes_prefixed : {c : ℕ} (r : Result Expr ParseFault) (marks : List Token) (operand : Expr)
-      → Parsed x d a b (each (one_of is_prefix) marks) → ParsedExpr x d b c 0 (expr_read operand) → IfOk r (λ m. m ≡ prefixed marks operand) → IfOk r (λ m. ParsedExpr x d a c 1 (expr_read m))
-  makes_prefixed {c} r marks operand h k = IfOk-weaker r (λ m. m ≡ prefixed marks operand) (λ m. ParsedExpr x d a c 1 (expr_read m)) (λ m is. rule_prefixed marks operand m is h k)
-
-  pub makes_levelled : {c n : ℕ} (r : Result Expr ParseFault) (first : Expr) (more : List Step)
-      → 1 ≤ n → ParsedExpr x d a b n (expr_read first) → Operated x d b c n (map step_read more) → IfOk r (λ m. m ≡ levelled first more) → IfOk r (λ m. ParsedExpr x d a c (n + 1) (expr_read m))
-  makes_levelled {c} {n} r first more positive h k = IfOk-weaker r (λ m. m ≡ levelled first more) (λ m. ParsedExpr x d a c (n + 1) (expr_read m)) (λ m is. rule_levelled first more m is positive h k)
-
   pub makes_chosen : (r : Result Expr ParseFault) (choices : List Choice) (last : Expr) → Tested x d a b choices last → IfOk r (λ m. m ≡ chosen choices last) → IfOk r (λ m. Parsed x d a b (expr m))
   makes_chosen r choices last h = IfOk-weaker r (λ m. m ≡ chosen choices last) (λ m. Parsed x d a b (expr m)) (λ m is. rule_chosen choices last m is h)
 

@@ -15,12 +15,12 @@ use Rattle.sv_tree.specs.declared.tree.expr.Args.TheVariants as arguments
 use Rattle.sv_tree.specs.declared.tree.expr.Select.TheVariants as selected
 use Rattle.sv_tree.specs.Symbol.{level_of, is_prefix, is_part}
 use Rattle.sv_tree.specs.TreeRead.{Symbols, Read, any, one_of, token, ◌then◌, deeper, asks, each, all_of}
-use Rattle.sv_tree.specs.TreeExpr.{ExprRead, StepRead, is_empty, operators, are_level, is_level, listed, primary, args_read, expr_read, select_read, choice_read, step_read, expr, selects, steps}
+use Rattle.sv_tree.specs.TreeExpr.{ExprRead, StepRead, is_empty, are_level, is_level, listed, primary, args_read, expr_read, select_read, choice_read, step_read, expr, selects, steps}
 use Rattle.sv_tree.specs.TreeExprLaws.{args-Empty, args-Listed, expr-Decimal, expr-Based, expr-Sized, expr-Fill, expr-Name, expr-Paren, expr-Concat, expr-Repeat, expr-Call, expr-System, expr-Prefix, expr-Level, expr-Choose, select-Bit, select-Part, choice-roll, step-roll}
 use Rattle.parse_expr.specs.Input.{Input, symbols, symbol_at, Takes, TakesThe}
 use Rattle.parse_expr.specs.Made.{prefixed, levelled, chosen, Closes, ClosesTwice}
-use Rattle.parse_expr.specs.Parsed.{Parsed, ParsedExpr}
-use Rattle.parse_expr.specs.ParsedLaws.{one_at, any_at, token_at, ◌and◌, deep, by, grouped, asking, each_none, each_more, each_last, none_before, none_after}
+use Rattle.parse_expr.specs.Parsed.{Parsed, ParsedExpr, ParsedSteps}
+use Rattle.parse_expr.specs.ParsedLaws.{one_at, any_at, token_at, ◌and◌, deep, by, grouped, asking, each_more, each_last, none_before, none_after}
 
 module _ {x : Input} {d a b : ℕ} where
   -- an expression of this form, by its equation
@@ -155,14 +155,6 @@ module _ {x : Input} {d a b c : ℕ} where
             binds = refl;
           })
 
--- operators of a level, with operands that bind tighter
-pub record Operated (x : Input) (d start end level : ℕ) (more : List StepRead) : Type 0 where
-  pub text : Parsed x d start end (operators more)
-  pub are : are_level (symbols x) level more ≡ true
-
-pub operated_none : {x : Input} {d a n : ℕ} → a ≤ length x.tokens → Operated x d a a n []
-operated_none within = record { text = each_none (λ (s : StepRead). any s.mark then s.operand.text) within; are = refl }
-
 are_level-more : (s : Symbols) (n : ℕ) (xs : List StepRead) (y : StepRead)
     → are_level s n xs ≡ true → level_of (s y.mark) == n ≡ true → nat_le (y.operand.rank s) n ≡ true → are_level s n (xs ++ y ∷ []) ≡ true
 are_level-more s n [] y h i k = rw (i, k) refl
@@ -173,10 +165,10 @@ are_level-more s n (z ∷ zs) y h i k = shifted (level_of (s z.mark) == n && nat
     shifted false b h k = h
 
 module _ {x : Input} {d a b c e n : ℕ} {mark : Token} where
-  pub rule_operator : (more : List Step) (operand : Expr) → d ≤ 128 → Operated x d a b n (map step_read more) → level_of (symbol_at x b) ≡ n → Takes x b c mark → ParsedExpr x d c e n (expr_read operand)
-      → Operated x d a e n (map step_read (more ++ roll-Step (record { mark = mark; operand = operand }) ∷ []))
+  pub rule_operator : (more : List Step) (operand : Expr) → d ≤ 128 → ParsedSteps x d a b n (map step_read more) → level_of (symbol_at x b) ≡ n → Takes x b c mark → ParsedExpr x d c e n (expr_read operand)
+      → ParsedSteps x d a e n (map step_read (more ++ roll-Step (record { mark = mark; operand = operand }) ∷ []))
   rule_operator more operand within h is i k =
-      subst (λ l. Operated x d a e n l) (sym (map_push step_read more _ ∙ ap (λ s. map step_read more ++ s ∷ []) (step-roll mark operand))) (record {
+      subst (λ l. ParsedSteps x d a e n l) (sym (map_push step_read more _ ∙ ap (λ s. map step_read more ++ s ∷ []) (step-roll mark operand))) (record {
         text = each_more (λ s. any s.mark then s.operand.text) (map step_read more) (record { mark = mark; operand = expr_read operand }) h.text (any_at within i and k.text);
         are = are_level-more (symbols x) n (map step_read more) (record { mark = mark; operand = expr_read operand }) h.are (eq-eqb _ _ (ap level_of i.symbol ∙ is)) k.binds;
       })
@@ -196,11 +188,11 @@ is_level-from s n first x xs positive h k =
     (and_true (nat_le 1 n && nat_le (first.rank s) n) _ (and_true (nat_le 1 n) _ (grind (arith, nat_tests)) h) k)
 
 module _ {x : Input} {d a b c n : ℕ} where
-  pub rule_levelled : (first : Expr) (more : List Step) (made : Expr) → made ≡ levelled first more → 1 ≤ n → ParsedExpr x d a b n (expr_read first) → Operated x d b c n (map step_read more)
+  pub rule_levelled : (first : Expr) (more : List Step) (made : Expr) → made ≡ levelled first more → 1 ≤ n → ParsedExpr x d a b n (expr_read first) → ParsedSteps x d b c n (map step_read more)
       → ParsedExpr x d a c (n + 1) (expr_read made)
   rule_levelled first more made is positive h k = subst (λ e. ParsedExpr x d a c (n + 1) (expr_read e)) (sym is) (cases more k)
     where
-      cases : (more : List Step) → Operated x d b c n (map step_read more) → ParsedExpr x d a c (n + 1) (expr_read (levelled first more))
+      cases : (more : List Step) → ParsedSteps x d b c n (map step_read more) → ParsedExpr x d a c (n + 1) (expr_read (levelled first more))
       cases [] k = record { text = none_after (λ (s : StepRead). any s.mark then s.operand.text) (expr first) (h.text and k.text); binds = looser _ n h.binds }
       cases (y ∷ ys) k =
           subst (λ r. ParsedExpr x d a c (n + 1) r) (sym (expr-Level first (y ∷ ys))) (record {

@@ -1,7 +1,7 @@
 -- When the tokens between two places are a part of a tree.
 use Rattle.std.specs.Prelude.{◌≡◌, ◌≤◌, ℕ, true, List, length, drop, nat_le}
 use Rattle.sv_tree.specs.TreeRead.{Laid, Read}
-use Rattle.sv_tree.specs.TreeExpr.{ExprRead}
+use Rattle.sv_tree.specs.TreeExpr.{ExprRead, StepRead, operators, are_level}
 use Rattle.sv_tree.specs.Tree.{deepest}
 use Rattle.parse_expr.specs.Input.{Input, symbols}
 use Rattle.parse_expr.specs.declared.fault.ParseFault.{ParseFault}
@@ -22,6 +22,11 @@ pub record Parsed (x : Input) (depth start end : ℕ) (part : Read) : Type 0 whe
 pub record ParsedExpr (x : Input) (depth start end rank : ℕ) (e : ExprRead) : Type 0 where
   pub text : Parsed x depth start end e.text
   pub binds : nat_le (e.rank (symbols x)) rank ≡ true
+
+-- The same of operators of a level, each with an operand that binds tighter.
+pub record ParsedSteps (x : Input) (depth start end level : ℕ) (more : List StepRead) : Type 0 where
+  pub text : Parsed x depth start end (operators more)
+  pub are : are_level (symbols x) level more ≡ true
 
 -- a fault of parsing names a token, or the end of the tokens
 abbrev pub IsWithin : Input → ParseFault → Type 0

@@ -1,9 +1,9 @@
 //! Expressions (IEEE 1800-2017 A.8.1 to A.8.4).
 
-ghost use Rattle.std.specs.Prelude.{◌≡◌, ◌≤◌, ◌<◌, ◌+◌, length, IfOk, OnOk, IfErr};
+ghost use Rattle.std.specs.Prelude.{◌≡◌, ◌≤◌, ◌<◌, ◌+◌, length, map, IfOk, OnOk, IfErr};
 ghost use Rattle.sv_tree.specs.TreeRead.{◌then◌};
 ghost use Rattle.sv_tree.specs.TreeExpr as tree;
-ghost use Rattle.parse_expr.specs.Parsed.{Parsed, ParsedExpr, IsWithin};
+ghost use Rattle.parse_expr.specs.Parsed.{Parsed, ParsedExpr, ParsedSteps, IsWithin};
 
 use crate::class::{is_part, level_of};
 use crate::fault::ParseFault;
@@ -29,39 +29,58 @@ pub fn expr(source: &Source<'_>, at: &mut usize, depth: u32) -> Result<Expr, Par
     ensures fault { IfErr result (λ f. IsWithin source.now f) }
 {
     let mut choices = Items::new(source.alloc());
-    let mut last = level(source, at, depth, LOOSEST)?;
+    let mut last = binary(source, at, depth, LOOSEST)?;
     'choices: while source.sees(*at, Symbol::Question) {
         let mark = question(source, at, depth)?;
         let value = expr(source, at, depth + 1)?;
         let choice = choice(source, at, last, mark, value)?;
         push(&mut choices, choice)?;
-        last = level(source, at, depth, LOOSEST)?;
+        last = binary(source, at, depth, LOOSEST)?;
     }
     choose(source.alloc(), choices, last)
 }
 
 /// Operands joined by operators of a level and of those that bind tighter.
 #[cycle(grammar)]
-fn level(source: &Source<'_>, at: &mut usize, depth: u32, loosest: u32) -> Result<Expr, ParseFault>
+fn binary(source: &Source<'_>, at: &mut usize, depth: u32, loosest: u32) -> Result<Expr, ParseFault>
     requires deep { depth ≤ 128 }
     requires within { at.old ≤ length source.now.tokens }
     requires known { loosest ≤ 10 }
     ensures reads { IfOk result (λ e. ParsedExpr source.now depth at.old at.new (loosest + 1) (tree.expr_read e)) }
     ensures fault { IfErr result (λ f. IsWithin source.now f) }
 {
-    if loosest == 0 {
-        let operators = prefixes(source, at, depth)?;
-        let operand = primary(source, at, depth)?;
-        return prefixed(source.alloc(), operators, operand);
+    let operators = prefixes(source, at, depth)?;
+    let operand = primary(source, at, depth)?;
+    let mut tree = prefixed(source.alloc(), operators, operand)?;
+    for level in 1..loosest + 1 {
+        let more = steps(source, at, depth, level)?;
+        tree = levelled(source.alloc(), tree, more)?;
     }
-    let first = level(source, at, depth, loosest - 1)?;
+    Ok(tree)
+}
+
+/// Operators of a level with the operands after them, as many as there are.
+#[cycle(grammar)]
+fn steps(
+    source: &Source<'_>,
+    at: &mut usize,
+    depth: u32,
+    level: u32,
+) -> Result<Items<Step>, ParseFault>
+    requires deep { depth ≤ 128 }
+    requires within { at.old ≤ length source.now.tokens }
+    requires above { 1 ≤ level }
+    requires known { level ≤ 10 }
+    ensures reads { IfOk result (λ more. ParsedSteps source.now depth at.old at.new level (map tree.step_read more)) }
+    ensures fault { IfErr result (λ f. IsWithin source.now f) }
+{
     let mut more = Items::new(source.alloc());
-    'operators: while level_of(source.peek(*at)) == loosest {
+    'operators: while level_of(source.peek(*at)) == level {
         let mark = source.take(at)?;
-        let operand = level(source, at, depth, loosest - 1)?;
+        let operand = binary(source, at, depth, level - 1)?;
         push(&mut more, Step { mark, operand })?;
     }
-    levelled(source.alloc(), first, more)
+    Ok(more)
 }
 
 /// A literal, a name with its selects, a call, or an expression in parentheses or braces.

@@ -2,8 +2,8 @@ use Rattle.std.proofs.Common.{◌≡◌, ◌≤◌, ◌+◌, ◌-◌, true, sym,
 use Rattle.sv_tree.specs.Symbol.{level_of, is_part}
 use Rattle.sv_tree.specs.declared.tree.expr.Args.TheVariants as arguments
 use Rattle.parse_expr.specs.ParsedLaws.{◌and◌}
-use Rattle.parse_expr.proofs.Rules.{rule_name, rule_no_args, rule_args, rule_steps, rule_selects, rule_operator, rule_choice}
-use Rattle.parse_expr.proofs.Closings.{is_none, closes_paren, closes_system, closes_call, closes_concat, closes_repeat, closes_bit, closes_part, makes_prefixed, makes_levelled, makes_chosen, closing_goes}
+use Rattle.parse_expr.proofs.Rules.{rule_name, rule_no_args, rule_args, rule_steps, rule_selects, rule_prefixed, rule_operator, rule_levelled, rule_choice}
+use Rattle.parse_expr.proofs.Closings.{is_none, closes_paren, closes_system, closes_call, closes_concat, closes_repeat, closes_bit, closes_part, makes_chosen, closing_goes}
 use Rattle.parse_expr.proofs.expression.+grammar.Goals as goal
 
 pub expr-choices-preserved : goal.expr-choices-preserved
@@ -15,22 +15,24 @@ expr-choices-preserved t c =
 pub expr-returns-clause-reads : goal.expr-returns-clause-reads
 expr-returns-clause-reads t c = makes_chosen c.choose.result c.choices.choices c.choices.last c.choices.invariant c.choose.ensures.made
 
-pub level-returns-then-loosest-eq0-clause-reads : goal.level-returns-then-loosest-eq0-clause-reads
-level-returns-then-loosest-eq0-clause-reads t c =
-    rw c.if-loosest-eq0.true (makes_prefixed c.prefixed.result c.in_ok-operators.operators c.in_ok-operand.operand c.in_ok-operators.ensures.reads c.in_ok-operand.ensures.reads c.prefixed.ensures.made)
+pub binary-loop-level-init : goal.binary-loop-level-init
+binary-loop-level-init t c = rule_prefixed c.in_ok-operators.operators c.in_ok-operand.operand c.in_ok-tree.tree c.in_ok-tree.ensures.made c.in_ok-operators.ensures.reads c.in_ok-operand.ensures.reads
 
-pub level-operators-preserved : goal.level-operators-preserved
-level-operators-preserved t c =
-    let next : level_of _ ≡ c.args.loosest = ap level_of (sym c.peek.ensures) ∙ sym c.level_of.ensures ∙ c.operators-test.true in
-    let same : c.args.loosest - 1 + 1 ≡ c.args.loosest = omega arith in
-    rw c.in_ok-push.ensures.more (record {
-      first = c.operators.invariant.first;
-      more = rule_operator c.operators.more c.in_ok-operand-2.operand c.requires.deep c.operators.invariant.more next c.in_ok-mark.ensures.token (rw same at c.in_ok-operand-2.ensures.reads);
-    })
+pub binary-loop-level-preserved : goal.binary-loop-level-preserved
+binary-loop-level-preserved t c =
+    rule_levelled c.loop-level.tree c.in_ok-more.more c.in_ok-tree-2.tree c.in_ok-tree-2.ensures.made c.loop-level.auto.level c.loop-level.invariant c.in_ok-more.ensures.reads
 
-pub level-returns-clause-reads : goal.level-returns-clause-reads
-level-returns-clause-reads t c =
-    makes_levelled c.levelled.result _ c.operators.more (omega arith) c.operators.invariant.first c.operators.invariant.more c.levelled.ensures.made
+pub binary-returns-clause-reads : goal.binary-returns-clause-reads
+binary-returns-clause-reads t c =
+    let last : c.loop-level.level ≡ c.args.loosest + 1 = omega arith in
+    rw last at c.loop-level.invariant
+
+pub steps-operators-preserved : goal.steps-operators-preserved
+steps-operators-preserved t c =
+    let next : level_of _ ≡ c.args.level = ap level_of (sym c.peek.ensures) ∙ sym c.level_of.ensures ∙ c.operators-test.true in
+    let same : c.args.level - 1 + 1 ≡ c.args.level = omega arith in
+    rw c.in_ok-push.ensures.more (
+    rule_operator c.operators.more c.in_ok-operand.operand c.requires.deep c.operators.invariant next c.in_ok-mark.ensures.token (rw same at c.in_ok-operand.ensures.reads))
 
 pub primary-returns-in_ok-arg-in-System-clause-reads : goal.primary-returns-in_ok-arg-in-System-clause-reads
 primary-returns-in_ok-arg-in-System-clause-reads t c =

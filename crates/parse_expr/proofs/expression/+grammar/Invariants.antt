@@ -1,16 +1,19 @@
 use Rattle.std.proofs.Common.{◌+◌, ◌-◌, ◌*◌, length, map}
 use Rattle.sv_tree.specs.TreeExpr.{expr, expr_read, steps, selects, step_read}
-use Rattle.parse_expr.specs.Parsed.{Parsed, ParsedExpr}
-use Rattle.parse_expr.proofs.Rules.{Operated, Tested}
+use Rattle.parse_expr.specs.Parsed.{Parsed, ParsedExpr, ParsedSteps}
+use Rattle.parse_expr.proofs.Rules.{Tested}
 use Rattle.parse_expr.proofs.expression.+grammar.Given as goal
 
 -- ---- measures: what is left of the depth, and then which function of the cycle it is
 
 abbrev pub decreases-expr : goal.decreases-expr
-decreases-expr l = (200 - l.depth) * 32 + 20
+decreases-expr l = (200 - l.depth) * 32 + 28
 
-abbrev pub decreases-level : goal.decreases-level
-decreases-level l = (200 - l.depth) * 32 + (l.loosest + 5)
+abbrev pub decreases-binary : goal.decreases-binary
+decreases-binary l = (200 - l.depth) * 32 + (2 * l.loosest + 5)
+
+abbrev pub decreases-steps : goal.decreases-steps
+decreases-steps l = (200 - l.depth) * 32 + (2 * l.level + 4)
 
 abbrev pub decreases-primary : goal.decreases-primary
 decreases-primary l = (200 - l.depth) * 32 + 4
@@ -28,7 +31,7 @@ abbrev pub decreases-select : goal.decreases-select
 decreases-select l = (200 - l.depth) * 32 + 1
 
 abbrev pub decreases-list : goal.decreases-list
-decreases-list l = (200 - l.depth) * 32 + 21
+decreases-list l = (200 - l.depth) * 32 + 29
 
 -- ---- loops
 
@@ -38,14 +41,14 @@ invariant-expr-choices l = Tested l.source l.depth l.fn.at l.at l.choices l.last
 abbrev pub decreases-expr-choices : goal.decreases-expr-choices
 decreases-expr-choices l = length l.source.tokens - l.at
 
-abbrev pub invariant-level-operators : goal.invariant-level-operators
-invariant-level-operators l = record {
-  first : ParsedExpr l.source l.depth l.fn.at l.initial.at l.loosest (expr_read l.first);
-  more : Operated l.source l.depth l.initial.at l.at l.loosest (map step_read l.more);
-}
+abbrev pub invariant-binary-loop-level : goal.invariant-binary-loop-level
+invariant-binary-loop-level l = ParsedExpr l.source l.depth l.fn.at l.at l.level (expr_read l.tree)
 
-abbrev pub decreases-level-operators : goal.decreases-level-operators
-decreases-level-operators l = length l.source.tokens - l.at
+abbrev pub invariant-steps-operators : goal.invariant-steps-operators
+invariant-steps-operators l = ParsedSteps l.source l.depth l.initial.at l.at l.level (map step_read l.more)
+
+abbrev pub decreases-steps-operators : goal.decreases-steps-operators
+decreases-steps-operators l = length l.source.tokens - l.at
 
 abbrev pub invariant-list-commas : goal.invariant-list-commas
 invariant-list-commas l = record {
