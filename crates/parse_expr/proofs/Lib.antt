@@ -1,5 +1,6 @@
 pub mod Closings
 pub mod Compared
+pub mod Examples
 pub mod Lexemes
 pub mod Rules
 pub mod Spelled

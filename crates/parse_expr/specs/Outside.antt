@@ -1,5 +1,5 @@
 -- Which tokens are outside of the subset of the language.
-use Rattle.std.specs.Prelude.{◌≡◌, ◌<◌, ℕ, Bool, true, false, not, ◌&&◌, ◌||◌, if◌then◌else◌, List, [], ◌∷◌, drop, map, get_or}
+use Rattle.std.specs.Prelude.{◌≡◌, ◌<◌, ℕ, Bool, true, false, not, ◌&&◌, ◌||◌, if◌then◌else◌, List, [], ◌∷◌, drop, map, get_or, codes}
 use Rattle.std.specs.Str.{bytes_eq}
 use Rattle.sv_tree.specs.declared.token.Token.{Token}
 use Rattle.sv_tree.specs.declared.token.TokenKind.{TokenKind}
@@ -46,10 +46,10 @@ abbrev pub begins_with : List ℕ → List (List ℕ) → Tokens → Bool
 begins_with mark names [] = false
 begins_with mark names (t ∷ ts) = is_the mark names t
 
--- the first token is outside by its spelling, or it is a `#` (35) with no `(` (40) after it
+-- the first token is outside by its spelling, or it is a `#` with no `(` after it
 abbrev pub starts_outside : List (List ℕ) → Tokens → Bool
 starts_outside names [] = false
-starts_outside names (t ∷ ts) = is_outside names t || (is_the (35 ∷ []) names t && not (begins_with (40 ∷ []) names ts))
+starts_outside names (t ∷ ts) = is_outside names t || (is_the (codes "#") names t && not (begins_with (codes "(") names ts))
 
 -- the token at a place is outside
 abbrev pub outside_at : List (List ℕ) → Tokens → ℕ → Bool
