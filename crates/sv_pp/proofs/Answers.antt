@@ -9,7 +9,7 @@ use Rattle.sv_pp.specs.declared.fault.PpFault.TheVariants as fault
 use Rattle.sv_pp.specs.Directive.{Text}
 use Rattle.sv_pp.specs.Reading.{Reading, joined_by}
 use Rattle.sv_pp.specs.Active.{reading}
-use Rattle.sv_pp.specs.Answer.{AllNamed, IsOfFiles, ReadsAs, FaultIs}
+use Rattle.sv_pp.specs.Answer.{AllNamed, IsSpelled, IsOfFiles, ReadsAs, FaultIs}
 use Rattle.sv_pp.proofs.Every.{of_reading}
 
 -- ---- the active tokens
@@ -42,18 +42,18 @@ tokens_counted names files named = of_reading names HasCounted (λ n. omega arit
     by a b None first second = omega (arith, length-append a.tokens b.tokens)
     by a b (Some f) first second = first
 
-HasTold : Reading → Type 0
-HasTold r = (f : PpFault) → r.fault ≡ Some f → IsOfFiles f
+HasTold : List Text → Reading → Type 0
+HasTold names r = (f : PpFault) → r.fault ≡ Some f → IsOfFiles names f
 
 -- a reading's fault is one of the files
-pub fault_told : (names : List Text) (files : List (List Token)) → AllNamed names files → (f : PpFault) → (reading names files).fault ≡ Some f → IsOfFiles f
+pub fault_told : (names : List Text) (files : List (List Token)) → AllNamed names files → (f : PpFault) → (reading names files).fault ≡ Some f → IsOfFiles names f
 unfolding HasTold
-fault_told names files named = of_reading names HasTold (λ n f is. cc) (λ t inside f is. cc) (λ n f told g is. subst IsOfFiles (same is) told) (λ a b first second. by a b a.fault first second refl) files named
+fault_told names files named = of_reading names (HasTold names) (λ n f is. cc) (λ t inside f is. cc) (λ n f told g is. subst (IsOfFiles names) (same is) told) (λ a b first second. by a b a.fault first second refl) files named
   where
     same : {f g : PpFault} → Some f ≡ Some g → f ≡ g
     same is = cc
 
-    by : (a b : Reading) (e : Option PpFault) → ((f : PpFault) → a.fault ≡ Some f → IsOfFiles f) → ((f : PpFault) → b.fault ≡ Some f → IsOfFiles f) → a.fault ≡ e → (f : PpFault) → (joined_by e a b).fault ≡ Some f → IsOfFiles f
+    by : (a b : Reading) (e : Option PpFault) → ((f : PpFault) → a.fault ≡ Some f → IsOfFiles names f) → ((f : PpFault) → b.fault ≡ Some f → IsOfFiles names f) → a.fault ≡ e → (f : PpFault) → (joined_by e a b).fault ≡ Some f → IsOfFiles names f
     by a b None first second is = second
     by a b (Some e) first second is = first
 
@@ -64,29 +64,39 @@ answered_named most names files tokens named reads = subst (AreNamed names) (sym
 pub answered_few : (most : ℕ) (names : List Text) (files : List (List Token)) (tokens : List Token) → AllNamed names files → ReadsAs most tokens (reading names files) → length tokens ≤ most
 answered_few most names files tokens named reads = omega (arith, ap length reads.tokens_are, tokens_counted names files named, reads.few)
 
+-- and of a fault
+pub answered_spelled : (most : ℕ) (names : List Text) (files : List (List Token)) → AllNamed names files → (f : PpFault) → FaultIs most f (reading names files) → IsSpelled names f
+answered_spelled most names files named fault.NoMemory is = tt
+answered_spelled most names files named fault.TooMany is = tt
+answered_spelled most names files named (fault.UnknownMacro at name) is = fault_told names files named (fault.UnknownMacro at name) is.0
+answered_spelled most names files named (fault.MacroDepth at) is = tt
+answered_spelled most names files named (fault.OpenIf at) is = tt
+answered_spelled most names files named (fault.StrayElse at) is = tt
+answered_spelled most names files named (fault.Directive at name) is = fault_told names files named (fault.Directive at name) is.0
+
 -- ---- an answer, and only one
 
 -- a fault of the files is theirs where the limit is kept
-is_theirs : (most : ℕ) (f : PpFault) (r : Reading) → IsOfFiles f → r.fault ≡ Some f → r.count ≤ most → FaultIs most f r
-is_theirs most fault.NoMemory r told is few = absurd told
-is_theirs most fault.TooMany r told is few = absurd told
-is_theirs most (fault.UnknownMacro at name) r told is few = (is, few)
-is_theirs most (fault.MacroDepth at) r told is few = (is, few)
-is_theirs most (fault.OpenIf at) r told is few = (is, few)
-is_theirs most (fault.StrayElse at) r told is few = (is, few)
-is_theirs most (fault.Directive at name) r told is few = (is, few)
+is_theirs : (names : List Text) (most : ℕ) (f : PpFault) (r : Reading) → IsOfFiles names f → r.fault ≡ Some f → r.count ≤ most → FaultIs most f r
+is_theirs names most fault.NoMemory r told is few = absurd told
+is_theirs names most fault.TooMany r told is few = absurd told
+is_theirs names most (fault.UnknownMacro at name) r told is few = (is, few)
+is_theirs names most (fault.MacroDepth at) r told is few = (is, few)
+is_theirs names most (fault.OpenIf at) r told is few = (is, few)
+is_theirs names most (fault.StrayElse at) r told is few = (is, few)
+is_theirs names most (fault.Directive at name) r told is few = (is, few)
 
-not_memory : (f : PpFault) → IsOfFiles f → f ≢ fault.NoMemory
-not_memory f told is = absurd (subst IsOfFiles is told)
+not_memory : (names : List Text) (f : PpFault) → IsOfFiles names f → f ≢ fault.NoMemory
+not_memory names f told is = absurd (subst (IsOfFiles names) is told)
 
-answer_within : (most : ℕ) (r : Reading) → ((f : PpFault) → r.fault ≡ Some f → IsOfFiles f) → r.count ≤ most → (e : Option PpFault) → r.fault ≡ e → ((tokens : List Token) × ReadsAs most tokens r) ⊎ ((f : PpFault) × (f ≢ fault.NoMemory) × FaultIs most f r)
-answer_within most r told few None is = inl (r.tokens, record { whole = is; few = few; tokens_are = refl })
-answer_within most r told few (Some f) is = inr (f, not_memory f (told f is), is_theirs most f r (told f is) is few)
+answer_within : (names : List Text) (most : ℕ) (r : Reading) → ((f : PpFault) → r.fault ≡ Some f → IsOfFiles names f) → r.count ≤ most → (e : Option PpFault) → r.fault ≡ e → ((tokens : List Token) × ReadsAs most tokens r) ⊎ ((f : PpFault) × (f ≢ fault.NoMemory) × FaultIs most f r)
+answer_within names most r told few None is = inl (r.tokens, record { whole = is; few = few; tokens_are = refl })
+answer_within names most r told few (Some f) is = inr (f, not_memory names f (told f is), is_theirs names most f r (told f is) is few)
 
 pub some_answer : (most : ℕ) (names : List Text) (files : List (List Token)) → AllNamed names files → ((tokens : List Token) × ReadsAs most tokens (reading names files)) ⊎ ((f : PpFault) × (f ≢ fault.NoMemory) × FaultIs most f (reading names files))
 some_answer most names files named = elim (cases_lt most (reading names files).count) [
   | inl many ↦ inr (fault.TooMany, (λ is. cc), many)
-  | inr few ↦ answer_within most (reading names files) (fault_told names files named) few (reading names files).fault refl
+  | inr few ↦ answer_within names most (reading names files) (fault_told names files named) few (reading names files).fault refl
 ]
 
 -- what a fault says of the reading

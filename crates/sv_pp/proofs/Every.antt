@@ -19,7 +19,7 @@ use Rattle.sv_pp.proofs.Places.{named_front, some_same}
 abbrev AreMacrosNamed : List Text → Macros → Type 0
 AreMacrosNamed names macros = (name : Text) (body : List Token) → macros name ≡ Some body → AreNamed names body
 
-module _ (names : List Text) (P : Reading → Type 0) (of_silent : (n : ℕ) → P (silent n)) (of_active : (t : Token) → t.name.0 < length names → P (active t)) (of_stopped : (n : ℕ) (f : PpFault) → IsOfFiles f → P (stopped n f))
+module _ (names : List Text) (P : Reading → Type 0) (of_silent : (n : ℕ) → P (silent n)) (of_active : (t : Token) → t.name.0 < length names → P (active t)) (of_stopped : (n : ℕ) (f : PpFault) → IsOfFiles names f → P (stopped n f))
     (of_joined : (a b : Reading) → P a → P b → P (joined a b)) where
   -- ---- uses of macros
 
@@ -27,28 +27,28 @@ module _ (names : List Text) (P : Reading → Type 0) (of_silent : (n : ℕ) →
   of_each f one [] named = of_silent 0
   of_each f one (t ∷ ts) named = of_joined (f t) (each_reading f ts) (one t named.0) (of_each f one ts named.1)
 
-  of_inner : (at : Origin) (inner : Token → Reading) → ((t : Token) → P (inner t)) → (t : Token) → t.name.0 < length names → P (inner_reading names at inner t)
+  of_inner : (at : Origin) (inner : Token → Reading) → ((t : Token) → t.name.0 < length names → P (inner t)) → (t : Token) → t.name.0 < length names → P (inner_reading names at inner t)
   of_inner at inner each t named = by (is_directive t.kind) (role_of (named_by names t))
     where
       by : (directive : Bool) (role : Role) → P (if directive then inner_use at inner role t else active (placed at t))
       by false role = of_active (placed at t) named
-      by true Use = each t
-      by true Define = of_stopped 1 (fault.Directive at t.name) tt
-      by true Undef = of_stopped 1 (fault.Directive at t.name) tt
-      by true Ifdef = of_stopped 1 (fault.Directive at t.name) tt
-      by true Ifndef = of_stopped 1 (fault.Directive at t.name) tt
-      by true Else = of_stopped 1 (fault.Directive at t.name) tt
-      by true Endif = of_stopped 1 (fault.Directive at t.name) tt
-      by true Ignored = of_stopped 1 (fault.Directive at t.name) tt
-      by true Refused = of_stopped 1 (fault.Directive at t.name) tt
+      by true Use = each t named
+      by true Define = of_stopped 1 (fault.Directive at t.name) named
+      by true Undef = of_stopped 1 (fault.Directive at t.name) named
+      by true Ifdef = of_stopped 1 (fault.Directive at t.name) named
+      by true Ifndef = of_stopped 1 (fault.Directive at t.name) named
+      by true Else = of_stopped 1 (fault.Directive at t.name) named
+      by true Endif = of_stopped 1 (fault.Directive at t.name) named
+      by true Ignored = of_stopped 1 (fault.Directive at t.name) named
+      by true Refused = of_stopped 1 (fault.Directive at t.name) named
 
-  of_use : (macros : Macros) → AreMacrosNamed names macros → (at : Origin) (levels : ℕ) (t : Token) → P (use_reading names macros at levels t)
+  of_use : (macros : Macros) → AreMacrosNamed names macros → (at : Origin) (levels : ℕ) (t : Token) → t.name.0 < length names → P (use_reading names macros at levels t)
   unfolding use_reading
-  of_use macros named at zero t = of_stopped 1 (fault.MacroDepth at) tt
-  of_use macros named at (suc levels) t = by (of_use macros named at levels) (macros (named_by names t)) (named (named_by names t))
+  of_use macros named at zero t inside = of_stopped 1 (fault.MacroDepth at) tt
+  of_use macros named at (suc levels) t inside = by (of_use macros named at levels) (macros (named_by names t)) (named (named_by names t))
     where
-      by : ((t : Token) → P (use_reading names macros at levels t)) → (found : Option (List Token)) → ((body : List Token) → found ≡ Some body → AreNamed names body) → P (use_by at t (each_reading (inner_reading names at (use_reading names macros at levels))) found)
-      by inner None is = of_stopped 1 (fault.UnknownMacro at t.name) tt
+      by : ((t : Token) → t.name.0 < length names → P (use_reading names macros at levels t)) → (found : Option (List Token)) → ((body : List Token) → found ≡ Some body → AreNamed names body) → P (use_by at t (each_reading (inner_reading names at (use_reading names macros at levels))) found)
+      by inner None is = of_stopped 1 (fault.UnknownMacro at t.name) inside
       by inner (Some body) is =
           of_joined (silent 1) (each_reading (inner_reading names at (use_reading names macros at levels)) body) (of_silent 1)
           (of_each (inner_reading names at (use_reading names macros at levels)) (of_inner at (use_reading names macros at levels) inner) body (is body refl))
@@ -60,11 +60,11 @@ module _ (names : List Text) (P : Reading → Type 0) (of_silent : (n : ℕ) →
     pub read : P st.reading
     pub named : AreMacrosNamed names st.after.macros
 
-  module _ (s : State) (macros_named : AreMacrosNamed names s.macros) (t : Token) where
+  module _ (s : State) (macros_named : AreMacrosNamed names s.macros) (t : Token) (inside : t.name.0 < length names) where
     fine_quiet : (more : ℕ) (branches : List Branch) → Fine (quiet more (record { macros = s.macros; branches = branches }))
     fine_quiet more branches = record { read = of_silent (suc more); named = macros_named }
 
-    fine_faulty : (more : ℕ) (f : PpFault) → IsOfFiles f → Fine (faulty more f s)
+    fine_faulty : (more : ℕ) (f : PpFault) → IsOfFiles names f → Fine (faulty more f s)
     fine_faulty more f told = record { read = of_stopped (suc more) f told; named = macros_named }
 
     fine_body : (more : ℕ) (name : Token) (body : Option (List Token)) → ((new : List Token) → body ≡ Some new → AreNamed names new) → Fine (quiet more (with_body names s name body))
@@ -78,21 +78,21 @@ module _ (names : List Text) (P : Reading → Type 0) (of_silent : (n : ℕ) →
         by false other found is = macros_named other found is
 
     fine_named : (with_name : Token → Step) → ((name : Token) → Fine (with_name name)) → (rest : List Token) → Fine (named_step s t with_name rest)
-    fine_named with_name each [] = fine_faulty 0 (fault.Directive t.at t.name) tt
+    fine_named with_name each [] = fine_faulty 0 (fault.Directive t.at t.name) inside
     fine_named with_name each (name ∷ rest) = by (is_name name.kind)
       where
         by : (b : Bool) → Fine (if b then with_name name else faulty 0 (fault.Directive t.at t.name) s)
         by true = each name
-        by false = fine_faulty 0 (fault.Directive t.at t.name) tt
+        by false = fine_faulty 0 (fault.Directive t.at t.name) inside
 
     fine_define : (rest : List Token) → AreNamed names rest → Fine (define_step names s t rest)
-    fine_define [] named = fine_faulty 0 (fault.Directive t.at t.name) tt
+    fine_define [] named = fine_faulty 0 (fault.Directive t.at t.name) inside
     fine_define (name ∷ rest) named = by (is_name name.kind && is_on t.at.line name) (is_undefinable names name rest)
       where
         by : (there refused : Bool) → Fine (if there then (if refused then faulty 1 (fault.Directive t.at t.name) s else define_as names s name rest (line_length t.at.line rest)) else faulty 0 (fault.Directive t.at t.name) s)
-        by true true = fine_faulty 1 (fault.Directive t.at t.name) tt
+        by true true = fine_faulty 1 (fault.Directive t.at t.name) inside
         by true false = fine_body (suc (line_length t.at.line rest)) name (Some (take (line_length t.at.line rest) rest)) (λ new is. subst (AreNamed names) (some_same is) (named_front names (line_length t.at.line rest) rest named.1))
-        by false refused = fine_faulty 0 (fault.Directive t.at t.name) tt
+        by false refused = fine_faulty 0 (fault.Directive t.at t.name) inside
 
     fine_if : (test : Bool → Bool) (rest : List Token) → Fine (if_step names test s t rest)
     fine_if test rest = fine_named (open_as names test s t) (λ name. fine_quiet 1 _) rest
@@ -117,8 +117,8 @@ module _ (names : List Text) (P : Reading → Type 0) (of_silent : (n : ℕ) →
     fine_directive Else rest named = fine_else s.branches
     fine_directive Endif rest named = fine_endif s.branches
     fine_directive Ignored rest named = fine_quiet (line_length t.at.line rest) s.branches
-    fine_directive Refused rest named = fine_faulty 0 (fault.Directive t.at t.name) tt
-    fine_directive Use rest named = record { read = of_use s.macros macros_named t.at most_levels t; named = macros_named }
+    fine_directive Refused rest named = fine_faulty 0 (fault.Directive t.at t.name) inside
+    fine_directive Use rest named = record { read = of_use s.macros macros_named t.at most_levels t inside; named = macros_named }
 
     fine_skipped : (role : Role) (rest : List Token) → Fine (skipped_step names s role t rest)
     fine_skipped Define rest = fine_quiet 0 s.branches
@@ -131,8 +131,8 @@ module _ (names : List Text) (P : Reading → Type 0) (of_silent : (n : ℕ) →
     fine_skipped Refused rest = fine_quiet 0 s.branches
     fine_skipped Use rest = fine_quiet 0 s.branches
 
-    fine_step : (rest : List Token) → t.name.0 < length names → AreNamed names rest → Fine (step names s t rest)
-    fine_step rest inside named = by (is_directive t.kind) (is_active s)
+    fine_step : (rest : List Token) → AreNamed names rest → Fine (step names s t rest)
+    fine_step rest named = by (is_directive t.kind) (is_active s)
       where
         by : (directive on : Bool)
             → Fine (if directive then (if on then directive_step names s (role_of (named_by names t)) t rest else skipped_step names s (role_of (named_by names t)) t rest) else record { reading = if on then active t else silent 1; more = 0; after = s })
@@ -152,7 +152,7 @@ module _ (names : List Text) (P : Reading → Type 0) (of_silent : (n : ℕ) →
   of_file next after (suc left) s (t ∷ ts) macros_named named = of_file next after left s ts macros_named named.1
   of_file next after zero s (t ∷ ts) macros_named named =
       let st : Step = step names s t ts in
-      let fine : Fine st = fine_step s macros_named t ts named.0 named.1 in
+      let fine : Fine st = fine_step s macros_named t named.0 ts named.1 in
       of_joined st.reading (file_reading names next st.more st.after ts) fine.read (of_file next after st.more st.after ts fine.named named.1)
 
   of_files : (macros : Macros) → AreMacrosNamed names macros → (files : List (List Token)) → AllNamed names files → P (files_reading names macros files)

@@ -1,5 +1,5 @@
 -- What the preprocessor answers, held against the reading.
-use Rattle.std.specs.Prelude.{◌≡◌, ◌≤◌, ◌<◌, ℕ, List, [], ◌∷◌, Some, None}
+use Rattle.std.specs.Prelude.{◌≡◌, ◌≤◌, ◌<◌, ℕ, List, [], ◌∷◌, length, Some, None}
 use Rattle.sv_tree.specs.declared.token.Token.{Token}
 use Rattle.sv_tree.specs.Tokens.{AreNamed}
 use Rattle.sv_pp.specs.declared.fault.PpFault.{PpFault}
@@ -18,11 +18,17 @@ pub record ReadsAs (most : ℕ) (tokens : List Token) (r : Reading) : Type 0 whe
   pub few : r.count ≤ most
   pub tokens_are : tokens ≡ r.tokens
 
+-- the spelling that a fault tells is in the table
+abbrev pub IsSpelled : List Text → PpFault → Type 0
+IsSpelled names (fault.UnknownMacro at name) = name.0 < length names
+IsSpelled names (fault.Directive at name) = name.0 < length names
+IsSpelled names _ = Unit {0}
+
 -- the fault is one of the files, and not of the machine or of the limit
-abbrev pub IsOfFiles : PpFault → Type 0
-IsOfFiles fault.NoMemory = ⊥
-IsOfFiles fault.TooMany = ⊥
-IsOfFiles _ = Unit {0}
+abbrev pub IsOfFiles : List Text → PpFault → Type 0
+IsOfFiles names fault.NoMemory = ⊥
+IsOfFiles names fault.TooMany = ⊥
+IsOfFiles names f = IsSpelled names f
 
 -- the fault is the reading's; where more tokens than so many are read up to it, or to the end, that is the fault
 abbrev pub FaultIs : ℕ → PpFault → Reading → Type 0

@@ -9,7 +9,7 @@ ghost use Rattle.sv_pp.specs.Reading.{Macros, silent, stopped};
 ghost use Rattle.sv_pp.specs.Reading as said;
 ghost use Rattle.sv_pp.specs.Directive.{Text, role_of};
 ghost use Rattle.sv_pp.specs.Shown.{Stacked, Shows, Went, Stops, Takes, ReadsFile, test_of};
-ghost use Rattle.sv_pp.specs.Answer.{AllNamed, ReadsAs, FaultIs};
+ghost use Rattle.sv_pp.specs.Answer.{IsSpelled, AllNamed, ReadsAs, FaultIs};
 
 use crate::directive::{Role, role_of};
 use crate::fault::PpFault;
@@ -418,8 +418,12 @@ pub fn preprocess(alloc: Global, files: &[Vec<Token>], names: &Names) -> Result<
     ensures named { IfOk result (λ tokens. AreNamed names.now tokens.items) }
     ensures few { IfOk result (λ tokens. length tokens.items ≤ 1000000) }
     ensures fault { IfErr result (λ f. FaultIs 1000000 f (spec.reading names.now (map (λ file. file.items) files.now))) }
+    ensures spelled { IfErr result (λ f. IsSpelled names.now f) }
 {
-    preprocess_up_to(alloc, files, names, TOKENS)
+    match preprocess_up_to(alloc, files, names, TOKENS) {
+        Ok(tokens) => Ok(tokens),
+        Err(fault) => Err(fault),
+    }
 }
 
 /// As [`preprocess`], with the greatest number of tokens read as an argument.
