@@ -14,7 +14,7 @@ fn lexed(alloc: Global, file: u32, bytes: &[u8], names: &mut Names) -> Result<Ve
     ensures grows { Grows names.old names.new }
     ensures named { IfOk result (λ tokens. AreNamed names.new tokens.items) }
 {
-    if bytes.len() > 4_194_304 {
+    if bytes.len() > 100_000 {
         return Err(PpFault::TooMany);
     }
     match lex(alloc, file, bytes, names) {
@@ -290,21 +290,26 @@ fn macros_nest_64_deep(rt: HostRuntime) -> Result<(), PpFault> {
     Ok(())
 }
 
-/// So many uses of a macro of one token, after 6 tokens and before 1.
-fn uses(alloc: Global, count: u32) -> Result<Vec<u8>, AllocError> {
+/// 19 macros, each but the first twice the one before, and uses of them that read 1,000,000 tokens with the definitions.
+///
+/// The definitions are 75 tokens, and the use of `Ak` reads 3 * 2^k - 1.
+fn doubled(alloc: Global, end: &[u8]) -> Result<Vec<u8>, AllocError> {
     let mut source = Vec::new(alloc);
-    source.extend_from_slice(b"`define A ;\nmodule top;\n")?;
-    for _ in 0..count {
-        source.extend_from_slice(b"`A\n")?;
+    source.extend_from_slice(b"`define A0 ;")?;
+    for number in 0..18u32 {
+        let line = format!(in alloc; "\n`define A{} `A{number} `A{number}", number + 1)?;
+        source.extend_from_slice(line.as_bytes())?;
     }
-    source.extend_from_slice(b"endmodule")?;
+    source.extend_from_slice(b"\n`A18 `A16 `A12 `A10 `A8 `A7 `A6 `A5 `A4 `A3 `A3 ")?;
+    source.extend_from_slice(end)?;
     Ok(source)
 }
 
 #[test]
 fn a_million_tokens_are_read(rt: HostRuntime) -> Result<(), PpFault> {
-    for (count, want) in [(499_996, Ok(500_000)), (499_997, Err(PpFault::TooMany))] {
-        let Ok(source) = uses(rt.alloc(), count) else {
+    let table = [(b"".as_slice(), Ok(333_312)), (b";", Err(PpFault::TooMany))];
+    for (end, want) in table {
+        let Ok(source) = doubled(rt.alloc(), end) else {
             return Err(PpFault::NoMemory);
         };
         let Ok(mut names) = Names::new(rt.alloc()) else {
@@ -315,7 +320,7 @@ fn a_million_tokens_are_read(rt: HostRuntime) -> Result<(), PpFault> {
             Ok(tokens) => Ok(tokens.len()),
             Err(fault) => Err(fault),
         };
-        assert_eq!(rt; length, want, "{}", count);
+        assert_eq!(rt; length, want, "{}", end.len());
     }
     Ok(())
 }
