@@ -1,6 +1,5 @@
 -- What is parsed as a statement: a rule for each form of the grammar, from its parts to the whole.
-use Rattle.std.proofs.Common.{◌≡◌, ◌≤◌, ◌+◌, ◌<◌, ℕ, true, false, List, [], ◌∷◌, ◌++◌, map, refl, sym, ap, ◌∙◌, subst, arith}
-use Rattle.sv_tree.specs.declared.symbol.Symbol.{Symbol}
+use Rattle.std.proofs.Common.{◌≡◌, ◌≤◌, ◌+◌, ◌<◌, ℕ, true, false, List, [], ◌∷◌, map, refl, sym, ap, ◌∙◌, subst, arith}
 use Rattle.sv_tree.specs.declared.symbol.Symbol.TheVariants as symbol
 use Rattle.sv_tree.specs.declared.token.Token.{Token}
 use Rattle.sv_tree.specs.declared.tree.expr.Args.{Args}
@@ -16,14 +15,14 @@ use Rattle.sv_tree.specs.declared.tree.stmt.Stmt.TheVariants as stmt
 use Rattle.sv_tree.specs.declared.tree.stmt.Test.{Test}
 use Rattle.sv_tree.specs.Symbol.{same, is_assign}
 use Rattle.sv_tree.specs.TreeExpr.{is_empty, expr, args_read, selects, steps}
-use Rattle.sv_tree.specs.TreeRead.{Read, token, one_of, ◌then◌, maybe, all_of}
+use Rattle.sv_tree.specs.TreeRead.{token, ◌then◌, maybe, all_of}
 use Rattle.sv_tree.specs.TreeStmt.{lvalue_read, stmt_loop, test, texts, stmt_read, arm_read, branch_read}
 use Rattle.sv_tree.specs.TreeStmtLaws.{lvalue-Name, stmt-Empty, stmt-Block, stmt-If, stmt-IfElse, stmt-Case, stmt-For, stmt-Assign, stmt-Call, arm-Labels, arm-Default, branch-roll}
 use Rattle.parse_expr.specs.Input.{Input, symbol_at, Takes, TakesThe, IsAnother}
 use Rattle.parse_expr.specs.Parsed.{Parsed}
 use Rattle.parse_expr.specs.ParsedLaws.{token_at, one_at, ◌and◌, deep, by}
 use Rattle.parse_stmt.specs.Body.{ParsedBody, ParsedInside}
-use Rattle.parse_stmt.specs.BodyLaws.{takes_forward, first_is_not, takes_not, another_not, flat, flat_3, flat_4, plain_body, ending_body, body_by, block_body, branch_parsed, chain_body, chain_else_body, texts_more, all_more}
+use Rattle.parse_stmt.specs.BodyLaws.{takes_forward, first_is_not, takes_not, another_not, flat, flat_3, flat_4, plain_body, ending_body, body_by, block_body, branch_parsed, chain_body, chain_else_body}
 use Rattle.parse_stmt.specs.Heads.{named_word, case_head, arm_head, arm, case_of}
 use Rattle.parse_stmt.specs.declared.cases.ArmHead.{ArmHead}
 use Rattle.parse_stmt.specs.declared.cases.ArmHead.TheVariants.{Labels, Default}
@@ -103,7 +102,7 @@ module _ {x : Input} {e : ℕ} where
       → ParsedInside x e a g (stmt_read s)
   if_stmt {a} {b} {c} {f} {g} branches t body s made h k l first last = λ d is.
       let whole : ParsedBody x d a f (stmt_read s) =
-          body_by (ap stmt_read made ∙ stmt-If branches t body) (chain_body (map branch_read branches) t is h k l first (another_not x symbol.Else f refl last.1)) in
+      body_by (ap stmt_read made ∙ stmt-If branches t body) (chain_body (map branch_read branches) t is h k l first (another_not x symbol.Else f refl last.1)) in
       subst (λ n. ParsedBody x d a n (stmt_read s)) (sym last.0) whole
 
   pub if_else_stmt : {a b c : ℕ} (branches : List Branch) (body : Stmt) (s : Stmt) → s ≡ stmt.IfElse branches body

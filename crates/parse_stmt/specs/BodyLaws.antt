@@ -7,11 +7,10 @@ use Rattle.sv_tree.specs.declared.symbol.Symbol.{Symbol}
 use Rattle.sv_tree.specs.declared.symbol.Symbol.TheVariants as symbol
 use Rattle.sv_tree.specs.declared.token.Token.{Token}
 use Rattle.sv_tree.specs.declared.tree.stmt.Test.{Test}
-use Rattle.sv_tree.specs.declared.tree.words.Label.{Label}
 use Rattle.sv_tree.specs.Symbol.{same}
 use Rattle.sv_tree.specs.SymbolLaws.{same_is}
 use Rattle.sv_tree.specs.TreeExpr.{is_empty}
-use Rattle.sv_tree.specs.TreeRead.{Read, one_of, token, ◌then◌, deeper, asks, maybe, all_of}
+use Rattle.sv_tree.specs.TreeRead.{Read, one_of, token, ◌then◌, maybe, all_of}
 use Rattle.sv_tree.specs.TreeWords.{label}
 use Rattle.sv_tree.specs.TreeStmt.{BodyRead, plain, ending_with, texts, block, branch, if_chain, if_else_chain, test}
 use Rattle.parse_expr.specs.Input.{Input, symbols, first_symbol, symbol_at, Takes, TakesThe, IsAnother}

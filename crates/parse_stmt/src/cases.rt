@@ -21,14 +21,8 @@ pub struct CaseHead {
 /// `expr { "," expr } ":" | "default" [ ":" ]`, an arm up to its statement.
 #[derive(Drop)]
 pub enum ArmHead {
-    Labels {
-        labels: Operands,
-        colon: Token,
-    },
-    Default {
-        word: Token,
-        colon: Option<Token>,
-    },
+    Labels { labels: Operands, colon: Token },
+    Default { word: Token, colon: Option<Token> },
 }
 
 /// `"case" "(" expr ")"`

@@ -30,11 +30,7 @@ pub fn if_stmt(
 /// A chain that ends with the body of an `else`.
 ///
 /// `NoMemory`: there was none left.
-pub fn if_else_stmt(
-    alloc: Global,
-    branches: Items<Branch>,
-    last: Stmt,
-) -> Result<Stmt, ParseFault>
+pub fn if_else_stmt(alloc: Global, branches: Items<Branch>, last: Stmt) -> Result<Stmt, ParseFault>
     ensures made { IfOk result (λ s. s ≡ Stmt.IfElse branches last) }
     ensures fault { IfErr result (λ f. f ≡ ParseFault.NoMemory) }
 {

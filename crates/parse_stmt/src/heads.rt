@@ -97,8 +97,15 @@ fn loop_rest(source: &Source<'_>, at: &mut usize, depth: u32) -> Result<LoopRest
 
 fn headed(word: Token, paren: Token, kind: Option<Token>, rest: LoopRest) -> LoopHead
     ensures { result ≡ record {
-        word = word; «open» = paren; kind = kind; start = rest.start; first = rest.first; test = rest.test;
-        second = rest.second; step = rest.step; close = rest.close
+      word = word;
+      «open» = paren;
+      kind = kind;
+      start = rest.start;
+      first = rest.first;
+      test = rest.test;
+      second = rest.second;
+      step = rest.step;
+      close = rest.close;
     } }
 {
     let LoopRest {

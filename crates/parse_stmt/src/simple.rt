@@ -53,12 +53,7 @@ fn named(source: &Source<'_>, at: &mut usize, depth: u32) -> Result<Stmt, ParseF
 }
 
 /// `"(" [ expr { "," expr } ] ")" ";"`, after the name of a call.
-fn call(
-    source: &Source<'_>,
-    at: &mut usize,
-    depth: u32,
-    name: Token,
-) -> Result<Stmt, ParseFault>
+fn call(source: &Source<'_>, at: &mut usize, depth: u32, name: Token) -> Result<Stmt, ParseFault>
     requires deep { depth ≤ 128 }
     requires within { at.old ≤ length source.now.tokens }
     ensures reads { IfOk result (λ s. (start : ℕ) → TakesThe source.now Symbol.Name start at.old name

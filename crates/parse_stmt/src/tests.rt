@@ -68,7 +68,11 @@ fn reads_what_belongs_to_it(rt: HostRuntime) {
         (Front::Test, "if (a) ;", 4),
         (Front::StmtLoop, "for (integer i = 0; i < 2; i += 1) ;", 15),
         (Front::ItemLoop, "for (i = 0; i < 2; --i) ;", 13),
-        (Front::ItemLoop, "for (genvar i = 0; i < 2; i = i + 1) ;", 17),
+        (
+            Front::ItemLoop,
+            "for (genvar i = 0; i < 2; i = i + 1) ;",
+            17,
+        ),
         (Front::End, "end ; a", 1),
         (Front::End, "end : a ;", 3),
     ];

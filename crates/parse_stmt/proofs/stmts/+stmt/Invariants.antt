@@ -1,4 +1,4 @@
-use Rattle.std.proofs.Common.{◌≡◌, ◌≤◌, ◌+◌, ◌*◌, ◌-◌, ℕ, true, map, length}
+use Rattle.std.proofs.Common.{◌≡◌, ◌+◌, ◌*◌, ◌-◌, true, map, length}
 use Rattle.sv_tree.specs.TreeRead.{all_of}
 use Rattle.sv_tree.specs.TreeExpr.{is_empty}
 use Rattle.sv_tree.specs.TreeStmt.{texts, stmt_read, branch_read, arm_read}
