@@ -15,7 +15,7 @@ use Rattle.run_status.specs.AnswerLaws.{memory_wanted, read_failed, file_missing
 use Rattle.first_form.specs.declared.flat.Port.{Port as CodePort}
 use Rattle.first_form.specs.declared.flat.Assign.{Assign as CodeAssign}
 use Rattle.first_form.specs.Tree.{Text, Assign, Design, ports_of}
-use Rattle.first_form.specs.Form.{ports_fit, assigns_fit, file_limit}
+use Rattle.first_form.specs.Form.{ports_fit, assigns_fit}
 use Rattle.first_form.specs.Meaning.{settling}
 use Rattle.first_form.specs.Stimulus.{Act, acts_of}
 use Rattle.first_form.specs.Run.{out_text}
@@ -25,10 +25,7 @@ use Rattle.first_stim.specs.StimulusLaws.{viewed_acts_same, fitting_ports}
 use Rattle.first_run.specs.FlatRun.{flat_text}
 use Rattle.first_run.specs.Whole.{text_same, order_same, none_stalled}
 use Rattle.vsim_cli.specs.AnswerLaws.{OneDesign, only_answer}
-use Rattle.vsim_cli.specs.Answer.{IsAnswer, IsToldAnswer, short, run_answer, acts_in, design_answer, stalled_answer}
-use Rattle.vsim_cli.specs.declared.input.InputFault.{InputFault}
-use Rattle.vsim_cli.specs.declared.input.InputFault.TheVariants as fault
-use Rattle.vsim_cli.specs.Input.{InputCause, Unreads}
+use Rattle.vsim_cli.specs.Answer.{IsAnswer, IsToldAnswer, run_answer, acts_in, design_answer, stalled_answer}
 use Rattle.vsim_cli.specs.Stages.{IsShape, IsSettled}
 
 -- ---- ports
@@ -77,14 +74,6 @@ loop_answer stim d acts some = stalled_by (settling d).stalled (run_answer stim 
 pub settled_answer : (stim : Text) (d : Design) (acts : Option (List ℕ)) → (settling d).stalled ≡ [] → run_answer stim d (acts_in d acts) ≡ design_answer stim d acts
 settled_answer stim d acts none = ap (λ (l : List Assign). stalled_answer l (run_answer stim d (acts_in d acts))) (sym none)
 
--- ---- files
-
-pub short_whole : (bytes : List ℕ) → length bytes ≤ file_limit → short bytes ≡ Some bytes
-short_whole bytes h = ap (λ (b : Bool). cond b (Some bytes) None) (le-leb (length bytes) file_limit h)
-
-pub short_none : (bytes : List ℕ) → file_limit < length bytes → short bytes ≡ None
-short_none bytes h = ap (λ (b : Bool). cond b (Some bytes) None) (lt-leb (length bytes) file_limit h)
-
 -- ---- what a stage asks of the next
 
 pub names_within : (names : List Text) (ports : List CodePort) → PortsNamed names ports → (k : ℕ) (p : CodePort) → k < length ports → (get_or ports k p).name.0 < length names
@@ -104,27 +93,6 @@ make_settled names ports ports' assigns order order' d shape ordered none p o =
       settles = none_stalled names ports assigns d shape.stands shape.formed none;
     } in
     subst (λ (x : List CodePort). IsSettled names x order' d) (sym p) (subst (λ (x : List CodeAssign). IsSettled names ports x d) (sym o) s)
-
--- ---- a file that was not read
-
-module _ (Allowed : Answer → Type 0) (named : List Text) (name : Text) (files : Option Files) (told told1 told2 : Option Written) (f0 f1 f2 f3 n0 n1 n2 n3 : ℕ) (s : Status) where
-  tells_later : (text : List ℕ) → f0 ≤ f2 → Tells text told1 told2 f2 f3 → told1 ≡ told → Tells text told told2 f0 f3
-  tells_later text p (inl whole) same = inl (whole ∙ ap (option_map (appended Errors (error_line text))) same)
-  tells_later text p (inr failed) same = inr (subst (λ (w : Option Written). Said Errors (error_line text) w told2) same failed.0, rose_between f0 f2 f3 p failed.1)
-
-  tells_part : (text : List ℕ) → Tells text told told2 f0 f3 → (errors : List ℕ) × IsPrefix errors (error_line text) × (told2 ≡ option_map (appended Errors errors) told)
-  tells_part text (inl whole) = (error_line text, IsPrefix-whole (error_line text), whole)
-  tells_part text (inr failed) = (failed.0.part, failed.0.front, failed.0.same)
-
-  pub unread_table : (fault : InputFault) → (a : Answer) × Allowed a → Contains named name → (IsMissing files name → Allowed (Unread name)) → InputCause fault files name f1 f2 n1 n2
-      → f0 ≤ f1 → f1 ≤ f2 → n0 ≤ n1 → f2 ≤ f3 → n2 ≤ n3 → told1 ≡ told → Unreads s fault name told1 told2 f2 f3 → Table Allowed s named told told2 f0 f3 n0 n3
-  unread_table fault.NoMemory some among missing cause p p' q r t same said =
-      memory_wanted Allowed named told told2 f0 f3 n0 n3 s some.0 said.0 some.1 (tells_later (codes "out of memory") (omega arith) said.1 same)
-  unread_table fault.World some among missing (inl rose) p p' q r t same said =
-      let part = tells_part (codes "cannot read " ++ name) (tells_later (codes "cannot read " ++ name) (omega arith) said.1 same) in
-      read_failed Allowed named told told2 f0 f3 n0 n3 s name some.0 said.0 some.1 among (rose_before f0 f2 f3 (rose_between f0 f1 f2 p rose) r) part.0 part.1 part.2
-  unread_table fault.World some among missing (inr absent) p p' q r t same said =
-      file_missing Allowed named told told2 f0 f3 n0 n3 s name said.0 (missing absent.1) among (rose_before n0 n2 n3 (rose_between n0 n1 n2 q absent.0) t) (tells_later (codes "cannot read " ++ name) (omega arith) said.1 same)
 
 -- ---- completeness
 

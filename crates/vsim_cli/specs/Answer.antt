@@ -1,13 +1,12 @@
 -- What a command line is answered, over the files by their names.
-use Rattle.std.specs.Prelude.{◌≡◌, ℕ, List, [], ◌∷◌, ◌++◌, length, Option, Some, None, Bool, false, not, ◌&&◌, ◌==◌, if◌then◌else◌, nat_le, codes, IfSome, Vec}
-use Rattle.std.specs.Option.{option_map}
+use Rattle.std.specs.Prelude.{◌≡◌, ℕ, List, [], ◌∷◌, ◌++◌, Option, Some, None, Bool, false, not, ◌&&◌, ◌==◌, if◌then◌else◌, codes, IfSome}
 use Rattle.std.specs.Str.{bytes_eq}
-use Rattle.std.specs.declared.alloc.Global.{Global}
 use Rattle.vs_world.specs.Outside.{Files}
 use Rattle.run_status.specs.Answer.{Answer, Refused, Unread, Texts}
 use Rattle.run_status.specs.AnswerLaws.{only_out}
+use Rattle.run_input.specs.Input.{short}
 use Rattle.first_form.specs.Tree.{Text, Assign, Design, ports_of}
-use Rattle.first_form.specs.Form.{file_limit, IsDesign}
+use Rattle.first_form.specs.Form.{IsDesign}
 use Rattle.first_form.specs.Meaning.{settling}
 use Rattle.first_form.specs.Stimulus.{Act, acts_of}
 use Rattle.first_form.specs.Run.{out_text}
@@ -37,10 +36,6 @@ files_named None = []
 files_named (Some n) = n.design ∷ n.stimulus ∷ []
 
 -- ---- the answer
-
--- what is read of a file: its bytes, or none where it is too long
-abbrev pub short : List ℕ → Option (List ℕ)
-short bytes = if nat_le (length bytes) file_limit then Some bytes else None
 
 abbrev pub unbuilt : Text → Answer
 unbuilt file = Refused (file ++ codes ": not built yet")
@@ -92,12 +87,3 @@ IsToldAnswer words told a = IfSome told (λ files. IsAnswer words files a)
 
 abbrev pub IsNamedAnswer : Named → Option Files → Answer → Type 0
 IsNamedAnswer n told a = IfSome told (λ files. NamesAnswer n (files n.design) (files n.stimulus) a)
-
--- the bytes that were read
-abbrev pub contents : Option (Vec ℕ Global) → Option (List ℕ)
-contents v = option_map (λ (w : Vec ℕ Global). w.items) v
-
--- what was read of a file that is there
-abbrev pub IsInput : Option (List ℕ) → Option (Vec ℕ Global) → Type 0
-IsInput None v = ⊥
-IsInput (Some bytes) v = contents v ≡ short bytes

@@ -6,7 +6,8 @@ use Rattle.vs_world.specs.Outside.{Files, IsMissing}
 use Rattle.run_status.specs.Answer.{Answer, Refused, Unread}
 use Rattle.first_form.specs.Tree.{Text, Design}
 use Rattle.first_form.specs.Form.{IsDesign}
-use Rattle.vsim_cli.specs.Answer.{Named, settings_of, short, unbuilt, design_answer, IsDesignIn, FilesAnswer, NoDesign, OfDesign, NamesAnswer, SettingsAnswer, IsAnswer, IsToldAnswer, IsNamedAnswer, contents, IsInput}
+use Rattle.vsim_cli.specs.Answer.{Named, settings_of, unbuilt, design_answer, IsDesignIn, FilesAnswer, NoDesign, OfDesign, NamesAnswer, SettingsAnswer, IsAnswer, IsToldAnswer, IsNamedAnswer}
+use Rattle.run_input.specs.Input.{short, contents, IsInput}
 
 -- a file is a design or is none
 abbrev pub Decides : Type 0

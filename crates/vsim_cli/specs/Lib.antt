@@ -1,5 +1,4 @@
 pub mod Answer
 pub mod AnswerLaws
 pub mod Words
-pub mod Input
 pub mod Stages

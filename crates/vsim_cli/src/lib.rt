@@ -12,7 +12,6 @@
 //! error take no memory.
 #![tactic(auto)]
 
-mod input;
 mod law;
 mod run;
 #[cfg(test)]

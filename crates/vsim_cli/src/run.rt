@@ -8,17 +8,17 @@ ghost use Rattle.first_form.specs.Tree.{Design, ports_of};
 ghost use Rattle.first_form.specs.Stimulus.{Act as TreeAct};
 ghost use Rattle.first_form.specs.Run.{out_text};
 ghost use Rattle.first_form.specs.Flat.{PortsNamed, flat_act};
-ghost use Rattle.vsim_cli.specs.Answer.{Named, settings_of, files_named, IsAnswer, IsToldAnswer, IsNamedAnswer, FilesAnswer, IsDesignIn, acts_in, run_answer, design_answer, contents};
-ghost use Rattle.vsim_cli.specs.Input.{Unreads};
+ghost use Rattle.vsim_cli.specs.Answer.{Named, settings_of, files_named, IsAnswer, IsToldAnswer, IsNamedAnswer, FilesAnswer, IsDesignIn, acts_in, run_answer, design_answer};
+ghost use Rattle.run_input.specs.Input.{contents};
 ghost use Rattle.vsim_cli.specs.Stages.{IsShape, IsSettled};
 
-use crate::input::{InputFault, input};
 use crate::words::settings;
 use first_form::{Assign, Port};
 use first_read::{Form, FormFault, design_or_none, one_design, read_form};
 use first_run::{OrderFault, RunFault, run_acts, settle_order};
 use first_stim::{StimFault, read_acts};
-use run_status::{Status, cannot_read, cannot_write_out, out_of_memory, refuse};
+use run_input::{input, unread};
+use run_status::{Status, cannot_write_out, out_of_memory, refuse};
 use std::alloc::Global;
 use std::thread::Threads;
 use sv_tree::Names;
@@ -130,17 +130,6 @@ fn run_files<W: World>(
         Ok(form) => run_form(alloc, stim, &names, form, acts, world),
         Err(FormFault::NoForm) => refuse(world, file, UNBUILT),
         Err(FormFault::NoMemory) => out_of_memory(world),
-    }
-}
-
-// The line after a failing read.
-fn unread<W: World>(world: &mut W, name: &[u8], fault: InputFault) -> Status
-    ensures told { Unreads result fault name.now (W.written world.old) (W.written world.new) (W.faults world.old) (W.faults world.new) }
-    ensures rest { OnlyWrites (W.faults world.old) (W.faults world.new) (W.absent world.old) (W.absent world.new) (W.files world.old) (W.files world.new) (W.made world.old) (W.made world.new) }
-{
-    match fault {
-        InputFault::World => cannot_read(world, name),
-        InputFault::NoMemory => out_of_memory(world),
     }
 }
 

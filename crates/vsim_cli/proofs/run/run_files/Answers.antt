@@ -2,7 +2,8 @@ use Rattle.std.proofs.Common.{◌≡◌, ◌++◌, refl}
 use Rattle.std.specs.Prelude.{codes}
 use Rattle.run_status.specs.Answer.{Answer}
 use Rattle.run_status.specs.AnswerLaws.{refusal_ends, memory_wanted, table_weaker}
-use Rattle.vsim_cli.specs.Answer.{FilesAnswer, NoDesign, OfDesign, design_answer, contents}
+use Rattle.run_input.specs.Input.{contents}
+use Rattle.vsim_cli.specs.Answer.{FilesAnswer, NoDesign, OfDesign, design_answer}
 use Rattle.vsim_cli.specs.AnswerLaws.{some_files_answer}
 use Rattle.vsim_cli.proofs.run.run_files.Goals as goal
 

@@ -3,7 +3,8 @@ use Rattle.std.specs.Prelude.{codes}
 use Rattle.run_status.specs.Answer.{Answer}
 use Rattle.run_status.specs.AnswerLaws.{refusal_ends, memory_wanted, table_weaker}
 use Rattle.first_run.specs.Whole.{some_stalled, none_stalled}
-use Rattle.vsim_cli.specs.Answer.{run_answer, design_answer, acts_in, contents}
+use Rattle.run_input.specs.Input.{contents}
+use Rattle.vsim_cli.specs.Answer.{run_answer, design_answer, acts_in}
 use Rattle.vsim_cli.proofs.StageLaws.{make_settled, settled_answer, loop_answer}
 use Rattle.vsim_cli.proofs.run.run_form.Goals as goal
 

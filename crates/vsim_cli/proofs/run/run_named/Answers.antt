@@ -2,10 +2,10 @@ use Rattle.std.proofs.Common.{◌∷◌, [], Option, refl, ◌∙◌, subst, ari
 use Rattle.std.specs.Prelude.{IfSome}
 use Rattle.vs_world.specs.Outside.{Files}
 use Rattle.run_status.specs.AnswerLaws.{table_later}
-use Rattle.vsim_cli.specs.Answer.{Named, IsNamedAnswer, FilesAnswer, IsInput, contents}
+use Rattle.run_input.specs.Input.{IsInput, contents, InputCause}
+use Rattle.vsim_cli.specs.Answer.{Named, IsNamedAnswer, FilesAnswer}
 use Rattle.vsim_cli.specs.AnswerLaws.{named_answer, missing_first, missing_second, inputs_told}
-use Rattle.vsim_cli.specs.Input.{InputCause}
-use Rattle.vsim_cli.proofs.StageLaws.{unread_table}
+use Rattle.run_input.specs.InputLaws.{unread_table}
 use Rattle.vsim_cli.proofs.run.run_named.Goals as goal
 
 pub returns-in-Err-clause-table : goal.returns-in-Err-clause-table

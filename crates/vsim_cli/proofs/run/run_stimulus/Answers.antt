@@ -6,7 +6,8 @@ use Rattle.run_status.specs.AnswerLaws.{only_out, refusal_ends, memory_wanted, t
 use Rattle.first_form.specs.Tree.{ports_of}
 use Rattle.first_form.specs.Stimulus.{acts_of}
 use Rattle.first_form.specs.Run.{out_text}
-use Rattle.vsim_cli.specs.Answer.{run_answer, acts_in, contents}
+use Rattle.run_input.specs.Input.{contents}
+use Rattle.vsim_cli.specs.Answer.{run_answer, acts_in}
 use Rattle.vsim_cli.proofs.StageLaws.{ports_set, acts_found, no_acts}
 use Rattle.vsim_cli.proofs.run.run_stimulus.Goals as goal
 
