@@ -1,0 +1,7 @@
+mod MeaningExamples
+pub mod Texts
+pub mod Digits
+pub mod Walks
+pub mod Ranges
+pub mod Prefixes
+pub mod Exprs

@@ -1,0 +1,254 @@
+//! How the types and values of parts make those of the whole.
+
+ghost use Rattle.std.specs.Prelude.{◌≡◌, ◌+◌, ◌≤◌, ◌<ℤ◌, ◌≤ℤ◌, pos, neg_ℤ, ◌-ℤ◌, ◌*ℤ◌, ◌^◌, map, true, None};
+ghost use Rattle.vs_base.specs.Number.{reading as number_reading};
+ghost use Rattle.vs_base.specs.Operators.{joined as bits_joined, repeated as times_repeated, truth as bit_of};
+ghost use Rattle.sv_tree.specs.Spelling.{symbol_of};
+ghost use Rattle.sv_sem.specs.Types.{in_context as number_in_context};
+ghost use Rattle.sv_expr.specs.Bound.{IsWidth, is_width as is_type_width, whole_part, ranged as ranged_type};
+ghost use Rattle.sv_expr.specs.Operator.{combined as combined_kind};
+ghost use Rattle.sv_expr.specs.Meaning.{combined_typed, prefix_kind as prefixed_kind, system_kind, system_value as system_number, part_width};
+ghost use Rattle.sv_expr.specs.Walk.{at_width as number_at_width, joined_typed, with_choice, with_select};
+
+use crate::bound::{BIT, first, ranged};
+use crate::fault::WalkFault;
+use crate::operator::{Class, Function, combined, is_reduction};
+use crate::spelled::symbol;
+use crate::typed::Typed;
+use sv_sem::{in_context, wider};
+use sv_tree::{Names, Symbol, Token};
+use vs_base::{Bits, Origin, ValueType, limits};
+
+/// The type of two operands.
+pub fn combine(class: Class, a: Typed, b: Typed) -> Typed
+    requires a { IsWidth a.kind.width }
+    requires b { IsWidth b.kind.width }
+    ensures typed { result ≡ combined_typed class a b }
+    ensures width { IsWidth result.kind.width }
+{
+    Typed {
+        kind: combined(class, a.kind, b.kind),
+        fault: first(a.fault, b.fault),
+    }
+}
+
+/// The width of two parts, up to 2^32 - 1.
+pub fn join(a: Typed, b: Typed) -> Typed
+    ensures { result ≡ joined_typed a b }
+{
+    Typed {
+        kind: ValueType {
+            width: a.kind.width.saturating_add(b.kind.width),
+            signed: false,
+        },
+        fault: first(a.fault, b.fault),
+    }
+}
+
+/// The type of the values of a chain of `?:` with a further test and value.
+pub fn choose(so_far: Typed, test: Typed, value: Typed) -> Typed
+    ensures { result ≡ with_choice so_far test value }
+{
+    Typed {
+        kind: wider(so_far.kind, value.kind),
+        fault: first(first(so_far.fault, test.fault), value.fault),
+    }
+}
+
+/// The type of a name with a further select.
+pub fn select(so_far: Typed, last: Typed) -> Typed
+    ensures { result ≡ with_select so_far last }
+{
+    Typed {
+        kind: last.kind,
+        fault: first(so_far.fault, last.fault),
+    }
+}
+
+/// The type of an operand after operators.
+pub fn prefix_kind(names: &Names, marks: &[Token], kind: ValueType) -> ValueType
+    requires { IsWidth kind.width }
+    ensures kind { result ≡ prefixed_kind (map (symbol_of names.now) marks.now) kind }
+    ensures width { IsWidth result.width }
+{
+    let mut rest = marks;
+    while let [mark, more @ ..] = rest {
+        if is_reduction(symbol(names, *mark)) {
+            return BIT;
+        }
+        rest = more;
+    }
+    kind
+}
+
+/// The type of a system function's result.
+pub fn system_typed(function: Function, arg: Typed) -> Typed
+    ensures { result ≡ record { kind = system_kind function arg.kind; fault = arg.fault } }
+{
+    let kind = match function {
+        Function::CeilingLog => ValueType {
+            width: 32,
+            signed: true,
+        },
+        Function::Signed => ValueType {
+            width: arg.kind.width,
+            signed: true,
+        },
+        Function::Unsigned => ValueType {
+            width: arg.kind.width,
+            signed: false,
+        },
+    };
+    Typed {
+        kind,
+        fault: arg.fault,
+    }
+}
+
+/// The value of a system function's result, in its own type.
+pub fn system_value(function: Function, arg: Bits) -> Bits
+    ensures { result ≡ system_number function arg }
+{
+    match function {
+        Function::CeilingLog => arg.clog2(),
+        Function::Signed | Function::Unsigned => arg,
+    }
+}
+
+/// A value of at most 64 bits, whether it is read with a sign, and the first fault of its expression.
+#[derive(Clone, Copy)]
+pub struct Own {
+    pub value: Bits,
+    pub signed: bool,
+    pub fault: Option<WalkFault>,
+}
+
+/// The count of what stands once.
+pub fn once() -> Own
+    ensures reading { number_reading result.signed result.value ≡ pos 1 }
+    ensures fault { result.fault ≡ None }
+    ensures narrow { result.value.width ≤ 64 }
+{
+    Own {
+        value: Bits::new(1, 1),
+        signed: false,
+        fault: None,
+    }
+}
+
+/// A number of at most 64 bits, read with or without a sign.
+fn reading(value: Bits, signed: bool) -> i128
+    requires { value.width ≤ 64 }
+    ensures value { result ≡ number_reading signed value }
+    ensures low { neg_ℤ (pos (2 ^ 64)) ≤ℤ result }
+    ensures high { result <ℤ pos (2 ^ 64) }
+{
+    if signed {
+        return value.signed_of();
+    }
+    value.value() as i128
+}
+
+/// The type of a part select, of the values of its ends.
+pub fn part_typed(
+    at: Origin,
+    earlier: Option<WalkFault>,
+    mark: Symbol,
+    from: &Own,
+    to: &Own,
+) -> Typed
+    requires from { from.now.value.width ≤ 64 }
+    requires to { to.now.value.width ≤ 64 }
+    ensures typed { result ≡ ranged_type at earlier (part_width mark (number_reading from.now.signed from.now.value) (number_reading to.now.signed to.now.value)) }
+    ensures width { IsWidth result.kind.width }
+{
+    let from_reads = reading(from.value, from.signed);
+    let to_reads = reading(to.value, to.signed);
+    let bits = part_bits(mark, from_reads, to_reads);
+    ranged(at, earlier, bits)
+}
+
+/// The type of so many times a width.
+pub fn times_typed(at: Origin, earlier: Option<WalkFault>, count: &Own, width: u32) -> Typed
+    requires { count.now.value.width ≤ 64 }
+    ensures typed { result ≡ ranged_type at earlier (number_reading count.now.signed count.now.value *ℤ pos width) }
+    ensures width { IsWidth result.kind.width }
+{
+    let bits = times(reading(count.value, count.signed), width);
+    ranged(at, earlier, bits)
+}
+
+/// Whether a type may have so many times a width.
+pub fn times_fits(count: &Own, width: u32) -> bool
+    requires { count.now.value.width ≤ 64 }
+    ensures { result ≡ is_type_width (whole_part (number_reading count.now.signed count.now.value *ℤ pos width)) }
+{
+    let bits = times(reading(count.value, count.signed), width);
+    1 <= bits && bits <= i128::from(limits::WIDTH)
+}
+
+/// How many bits a part select has, of the readings of its ends.
+fn part_bits(mark: Symbol, from: i128, to: i128) -> i128
+    requires from_low { neg_ℤ (pos (2 ^ 64)) ≤ℤ from }
+    requires from_high { from <ℤ pos (2 ^ 64) }
+    requires to_low { neg_ℤ (pos (2 ^ 64)) ≤ℤ to }
+    requires to_high { to <ℤ pos (2 ^ 64) }
+    ensures { result ≡ part_width mark from to }
+{
+    match mark {
+        Symbol::Colon => from - to + 1,
+        _ => to,
+    }
+}
+
+/// How many bits so many times a width are.
+fn times(count: i128, width: u32) -> i128
+    requires low { neg_ℤ (pos (2 ^ 64)) ≤ℤ count }
+    requires high { count <ℤ pos (2 ^ 64) }
+    ensures { result ≡ count *ℤ pos width }
+{
+    count * i128::from(width)
+}
+
+/// The bits of both, those of `low` below. Where they are more than 128 together, `high` alone.
+pub fn joined(high: Bits, low: Bits) -> Bits
+    ensures { high.width + low.width ≤ 128 → result ≡ bits_joined high low }
+{
+    if high.width() + low.width() > 128 {
+        return high;
+    }
+    high.join(low)
+}
+
+/// So many times the bits, in a context; together they are a width that a type may have.
+pub fn repeated(value: Bits, count: &Own, context: ValueType) -> Bits
+    requires width { is_type_width (whole_part (number_reading count.now.signed count.now.value *ℤ pos value.width)) ≡ true }
+    requires narrow { count.now.value.width ≤ 64 }
+    requires context { IsWidth context.width }
+    ensures { result ≡ number_in_context (times_repeated (whole_part (number_reading count.now.signed count.now.value)) value) context }
+{
+    in_context(
+        value.repeat(reading(count.value, count.signed) as u32),
+        context,
+    )
+}
+
+/// A value that is as wide as a context already, or is extended to it.
+pub fn at_width(value: Bits, context: ValueType) -> Bits
+    requires { IsWidth context.width }
+    ensures value { result ≡ number_at_width value context }
+    ensures width { result.width ≡ context.width }
+{
+    if value.width() == context.width {
+        return value;
+    }
+    in_context(value, context)
+}
+
+/// The bit of an answer, in a context.
+pub fn truth(holds: bool, context: ValueType) -> Bits
+    requires { IsWidth context.width }
+    ensures { result ≡ number_in_context (bit_of holds) context }
+{
+    in_context(Bits::new(1, u128::from(holds)), context)
+}

@@ -1,0 +1,396 @@
+//! Expressions that are built by hand, since no parser is in reach here.
+
+use crate::fault::WalkFault;
+use crate::scope::{Constant, Declared, ScopeView};
+use crate::{const_value, expr_type};
+use sqlite_items::{Boxed, Items};
+use std::alloc::Global;
+use std::process::Abort;
+use std::test::Fail;
+use sv_tree::{Choice, Expr, Names, Step, Token, TokenKind};
+use vs_base::{Bits, Origin, ValueType};
+
+fn at(col: u32) -> Origin {
+    Origin {
+        file: 0,
+        line: 1,
+        col,
+    }
+}
+
+fn token(
+    names: &mut Names,
+    alloc: Global,
+    kind: TokenKind,
+    text: &[u8],
+    col: u32,
+) -> Result<Token, Fail> {
+    let name = names.intern(alloc, text)?;
+    Ok(Token {
+        kind,
+        name,
+        at: at(col),
+    })
+}
+
+// A number of so many digits with a size, which stands at column 2; without a base the size alone.
+fn literal(names: &mut Names, alloc: Global, size: &[u8], digits: &[u8]) -> Result<Expr, Fail> {
+    let size = token(names, alloc, TokenKind::Decimal, size, 2)?;
+    if digits.len() == 0 {
+        return Ok(Expr::Decimal(size));
+    }
+    let digits = token(names, alloc, TokenKind::Based, digits, 3)?;
+    Ok(Expr::Sized { size, digits })
+}
+
+// The operand after a mark, or alone where there is none.
+fn prefix(names: &mut Names, alloc: Global, text: &[u8], operand: Expr) -> Result<Expr, Fail> {
+    if text.len() == 0 {
+        return Ok(operand);
+    }
+    let mut operators = Items::new(alloc);
+    operators.push(token(names, alloc, TokenKind::Mark, text, 1)?)?;
+    Ok(Expr::Prefix {
+        operators,
+        operand: Boxed::new(alloc, operand)?,
+    })
+}
+
+fn step(names: &mut Names, alloc: Global, text: &[u8], operand: Expr) -> Result<Step, Fail> {
+    Ok(Step {
+        mark: token(names, alloc, TokenKind::Mark, text, 4)?,
+        operand,
+    })
+}
+
+fn level(alloc: Global, first: Expr, step: Step) -> Result<Expr, Fail> {
+    let mut more = Items::new(alloc);
+    more.push(step)?;
+    Ok(Expr::Level {
+        first: Boxed::new(alloc, first)?,
+        more,
+    })
+}
+
+// The replication, whose brace stands at column 1.
+fn repeat(names: &mut Names, alloc: Global, count: Expr, part: Expr) -> Result<Expr, Fail> {
+    let open = token(names, alloc, TokenKind::Mark, b"{", 1)?;
+    let close = token(names, alloc, TokenKind::Mark, b"}", 9)?;
+    Ok(Expr::Repeat {
+        open,
+        count: Boxed::new(alloc, count)?,
+        inner_open: open,
+        first: Boxed::new(alloc, part)?,
+        more: Items::new(alloc),
+        inner_close: close,
+        close,
+    })
+}
+
+fn system(names: &mut Names, alloc: Global, text: &[u8], arg: Expr) -> Result<Expr, Fail> {
+    Ok(Expr::System {
+        name: token(names, alloc, TokenKind::System, text, 1)?,
+        open: token(names, alloc, TokenKind::Mark, b"(", 2)?,
+        arg: Boxed::new(alloc, arg)?,
+        close: token(names, alloc, TokenKind::Mark, b")", 9)?,
+    })
+}
+
+fn fill(names: &mut Names, alloc: Global, text: &[u8]) -> Result<Expr, Fail> {
+    Ok(Expr::Fill(token(names, alloc, TokenKind::Fill, text, 1)?))
+}
+
+fn alone(names: &Names) -> ScopeView<'_> {
+    ScopeView {
+        names,
+        values: &[],
+        variables: &[],
+        memories: &[],
+        imports: &[],
+    }
+}
+
+// The type, and the value in a context of so many bits.
+fn gives(rt: &impl Abort, names: &Names, expr: &Expr, width: u32, signed: bool, value: Bits) {
+    let scope = alone(names);
+    let kind = ValueType { width, signed };
+    assert!(rt; expr_type(&scope, expr) == Ok(kind), "type");
+    let context = ValueType {
+        width: value.width(),
+        signed,
+    };
+    if context.width <= 64 {
+        assert!(rt; const_value(&scope, expr, context) == Ok(value), "value");
+    }
+}
+
+fn fails(rt: &impl Abort, names: &Names, expr: &Expr, fault: WalkFault) {
+    let scope = alone(names);
+    assert!(rt; expr_type(&scope, expr) == Err(fault), "fault of the type");
+    let context = ValueType {
+        width: 8,
+        signed: false,
+    };
+    assert!(rt;
+        const_value(&scope, expr, context) == Err(fault),
+        "fault of the value"
+    );
+}
+
+// A prefix, a size and the digits after it.
+type Literal<'a> = (&'a [u8], &'a [u8], &'a [u8]);
+
+fn operand(names: &mut Names, alloc: Global, literal_of: Literal<'_>) -> Result<Expr, Fail> {
+    let (mark, size, digits) = literal_of;
+    let number = literal(names, alloc, size, digits)?;
+    prefix(names, alloc, mark, number)
+}
+
+fn binary(
+    names: &mut Names,
+    alloc: Global,
+    left: Literal<'_>,
+    mark: &[u8],
+    right: Literal<'_>,
+) -> Result<Expr, Fail> {
+    let first = operand(names, alloc, left)?;
+    let second = operand(names, alloc, right)?;
+    let step = step(names, alloc, mark, second)?;
+    level(alloc, first, step)
+}
+
+const NONE: &[u8] = b"";
+
+const MINUS: &[u8] = b"-";
+
+#[test]
+fn evaluates_operators(rt: HostRuntime) -> Result<(), Fail> {
+    let alloc = rt.alloc();
+    let mut names = Names::new(alloc)?;
+    let two: Literal<'_> = (NONE, b"2", NONE);
+    let quotient = binary(&mut names, alloc, (MINUS, b"7", NONE), b"/", two)?;
+    gives(&rt, &names, &quotient, 32, true, Bits::new(32, 0xffff_fffd));
+    let sum = binary(
+        &mut names,
+        alloc,
+        (NONE, b"4", b"'hf"),
+        b"+",
+        (NONE, b"4", b"'h1"),
+    )?;
+    gives(&rt, &names, &sum, 4, false, Bits::new(4, 0));
+    gives(&rt, &names, &sum, 4, false, Bits::new(8, 0x10));
+    let rest = binary(
+        &mut names,
+        alloc,
+        (NONE, b"5", NONE),
+        b"%",
+        (NONE, b"0", NONE),
+    )?;
+    gives(&rt, &names, &rest, 32, true, Bits::new(32, 0));
+    Ok(())
+}
+
+#[test]
+fn shifts_by_the_sign_of_the_result(rt: HostRuntime) -> Result<(), Fail> {
+    let alloc = rt.alloc();
+    let mut names = Names::new(alloc)?;
+    let one: Literal<'_> = (NONE, b"1", NONE);
+    let plain = binary(&mut names, alloc, (NONE, b"3", b"'b101"), b">>>", one)?;
+    gives(&rt, &names, &plain, 3, false, Bits::new(3, 2));
+    let signed = binary(&mut names, alloc, (NONE, b"3", b"'sb101"), b">>>", one)?;
+    gives(&rt, &names, &signed, 3, true, Bits::new(3, 6));
+    let least = binary(
+        &mut names,
+        alloc,
+        (MINUS, b"8", b"'sd128"),
+        b"/",
+        (MINUS, b"8", b"'sd1"),
+    )?;
+    gives(&rt, &names, &least, 8, true, Bits::new(8, 0x80));
+    Ok(())
+}
+
+#[test]
+fn repeats_its_parts(rt: HostRuntime) -> Result<(), Fail> {
+    let alloc = rt.alloc();
+    let mut names = Names::new(alloc)?;
+    let part = (NONE, b"3".as_slice(), b"'b101".as_slice());
+    let twice = replication(&mut names, alloc, (NONE, b"2", NONE), part)?;
+    gives(&rt, &names, &twice, 6, false, Bits::new(6, 0x2d));
+    Ok(())
+}
+
+#[test]
+fn takes_logarithms(rt: HostRuntime) -> Result<(), Fail> {
+    let alloc = rt.alloc();
+    let mut names = Names::new(alloc)?;
+    let nine = literal(&mut names, alloc, b"9", NONE)?;
+    let log = system(&mut names, alloc, b"$clog2", nine)?;
+    gives(&rt, &names, &log, 32, true, Bits::new(32, 4));
+    Ok(())
+}
+
+#[test]
+fn takes_a_fill_alone_as_one_bit(rt: HostRuntime) -> Result<(), Fail> {
+    let alloc = rt.alloc();
+    let mut names = Names::new(alloc)?;
+    let one = fill(&mut names, alloc, b"'1")?;
+    let ones = system(&mut names, alloc, b"$signed", one)?;
+    gives(&rt, &names, &ones, 1, true, Bits::new(8, 0xff));
+    Ok(())
+}
+
+// A replication of two numbers.
+fn replication(
+    names: &mut Names,
+    alloc: Global,
+    count: Literal<'_>,
+    part: Literal<'_>,
+) -> Result<Expr, Fail> {
+    let count = operand(names, alloc, count)?;
+    let part = operand(names, alloc, part)?;
+    repeat(names, alloc, count, part)
+}
+
+#[test]
+fn finds_the_first_fault(rt: HostRuntime) -> Result<(), Fail> {
+    let alloc = rt.alloc();
+    let mut names = Names::new(alloc)?;
+    let table = [
+        (b"0".as_slice(), b"3".as_slice(), WalkFault::BadRange(at(1))),
+        (
+            b"0".as_slice(),
+            b"200".as_slice(),
+            WalkFault::TooWide(at(2)),
+        ),
+        (b"22".as_slice(), b"3".as_slice(), WalkFault::TooWide(at(1))),
+    ];
+    for (count, size, fault) in table {
+        let part = (NONE, size, b"'b1".as_slice());
+        let expr = replication(&mut names, alloc, (NONE, count, NONE), part)?;
+        fails(&rt, &names, &expr, fault);
+    }
+    Ok(())
+}
+
+#[test]
+fn looks_names_up(rt: HostRuntime) -> Result<(), Fail> {
+    let alloc = rt.alloc();
+    let mut names = Names::new(alloc)?;
+    let name = token(&mut names, alloc, TokenKind::Name, b"P", 1)?;
+    let kind = ValueType {
+        width: 4,
+        signed: true,
+    };
+    let value = Bits::new(4, 0xf);
+    let values = [Constant {
+        name: name.name,
+        kind,
+        value,
+    }];
+    let word = ValueType {
+        width: 16,
+        signed: false,
+    };
+    let other = token(&mut names, alloc, TokenKind::Name, b"v", 1)?;
+    let variables = [Declared {
+        name: other.name,
+        kind: word,
+    }];
+    let scope = ScopeView {
+        names: &names,
+        values: &values,
+        variables: &variables,
+        memories: &[],
+        imports: &[],
+    };
+    let constant = Expr::Name {
+        name,
+        selects: Items::new(alloc),
+    };
+    let variable = Expr::Name {
+        name: other,
+        selects: Items::new(alloc),
+    };
+    assert!(rt; expr_type(&scope, &variable) == Ok(word));
+    assert!(rt; expr_type(&scope, &constant) == Ok(kind));
+    let context = ValueType {
+        width: 8,
+        signed: true,
+    };
+    assert!(rt; const_value(&scope, &constant, context) == Ok(Bits::new(8, 0xff)));
+    Ok(())
+}
+
+// A mark and a decimal number after it.
+fn number_step(names: &mut Names, alloc: Global, mark: &[u8], digits: &[u8]) -> Result<Step, Fail> {
+    let operand = literal(names, alloc, digits, NONE)?;
+    step(names, alloc, mark, operand)
+}
+
+fn two_steps(
+    names: &mut Names,
+    alloc: Global,
+    mark: &[u8],
+    digits: [&[u8]; 2],
+) -> Result<Items<Step>, Fail> {
+    let [second, third] = digits;
+    let mut more = Items::new(alloc);
+    more.push(number_step(names, alloc, mark, second)?)?;
+    more.push(number_step(names, alloc, mark, third)?)?;
+    Ok(more)
+}
+
+// Three decimal numbers with one mark between them.
+fn three(names: &mut Names, alloc: Global, mark: &[u8], digits: [&[u8]; 3]) -> Result<Expr, Fail> {
+    let [first, second, third] = digits;
+    let more = two_steps(names, alloc, mark, [second, third])?;
+    let first = Boxed::new(alloc, literal(names, alloc, first, NONE)?)?;
+    Ok(Expr::Level { first, more })
+}
+
+#[test]
+fn groups_from_the_left(rt: HostRuntime) -> Result<(), Fail> {
+    let alloc = rt.alloc();
+    let mut names = Names::new(alloc)?;
+    let difference = three(&mut names, alloc, b"-", [b"9", b"4", b"3"])?;
+    gives(&rt, &names, &difference, 32, true, Bits::new(32, 2));
+    let greater = three(&mut names, alloc, b">", [b"3", b"2", b"1"])?;
+    gives(&rt, &names, &greater, 1, false, Bits::new(1, 0));
+    let all = three(&mut names, alloc, b"&&", [b"3", b"2", b"0"])?;
+    gives(&rt, &names, &all, 1, false, Bits::new(1, 0));
+    let some = three(&mut names, alloc, b"||", [b"0", b"2", b"0"])?;
+    gives(&rt, &names, &some, 1, false, Bits::new(1, 1));
+    Ok(())
+}
+
+fn choice(names: &mut Names, alloc: Global, test: Expr, value: Expr) -> Result<Choice, Fail> {
+    let question = token(names, alloc, TokenKind::Mark, b"?", 4)?;
+    let colon = token(names, alloc, TokenKind::Mark, b":", 6)?;
+    Ok(Choice {
+        test,
+        question,
+        value,
+        colon,
+    })
+}
+
+fn choose(alloc: Global, choice: Choice, last: Expr) -> Result<Expr, Fail> {
+    let mut choices = Items::new(alloc);
+    choices.push(choice)?;
+    let last = Boxed::new(alloc, last)?;
+    Ok(Expr::Choose { choices, last })
+}
+
+#[test]
+fn chooses_in_the_context(rt: HostRuntime) -> Result<(), Fail> {
+    let alloc = rt.alloc();
+    let mut names = Names::new(alloc)?;
+    let test = operand(&mut names, alloc, (b"~&", b"3", b"'b101"))?;
+    let value = literal(&mut names, alloc, b"3", b"'sb101")?;
+    let choice = choice(&mut names, alloc, test, value)?;
+    let last = literal(&mut names, alloc, b"8", b"'h0")?;
+    let chosen = choose(alloc, choice, last)?;
+    gives(&rt, &names, &chosen, 8, false, Bits::new(8, 5));
+    Ok(())
+}
