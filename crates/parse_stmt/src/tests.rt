@@ -16,27 +16,45 @@ enum Front {
     End,
 }
 
+fn read_stmt(source: &Source<'_>) -> Result<usize, ParseFault> {
+    let mut at = 0;
+    stmt(source, &mut at, 0)?;
+    Ok(at)
+}
+
+fn read_test(source: &Source<'_>) -> Result<usize, ParseFault> {
+    let mut at = 0;
+    test(source, &mut at, 0)?;
+    Ok(at)
+}
+
+fn read_stmt_loop(source: &Source<'_>) -> Result<usize, ParseFault> {
+    let mut at = 0;
+    stmt_loop(source, &mut at, 0)?;
+    Ok(at)
+}
+
+fn read_item_loop(source: &Source<'_>) -> Result<usize, ParseFault> {
+    let mut at = 0;
+    item_loop(source, &mut at, 0)?;
+    Ok(at)
+}
+
+fn read_end(source: &Source<'_>) -> Result<usize, ParseFault> {
+    let mut at = 0;
+    named_word(source, &mut at, 0, Symbol::End)?;
+    Ok(at)
+}
+
 /// The place after what is read at the front of the tokens.
 fn read(source: &Source<'_>, front: Front) -> Result<usize, ParseFault> {
-    let mut at = 0;
     match front {
-        Front::Stmt => {
-            stmt(source, &mut at, 0)?;
-        }
-        Front::Test => {
-            test(source, &mut at, 0)?;
-        }
-        Front::StmtLoop => {
-            stmt_loop(source, &mut at, 0)?;
-        }
-        Front::ItemLoop => {
-            item_loop(source, &mut at, 0)?;
-        }
-        Front::End => {
-            named_word(source, &mut at, 0, Symbol::End)?;
-        }
+        Front::Stmt => read_stmt(source),
+        Front::Test => read_test(source),
+        Front::StmtLoop => read_stmt_loop(source),
+        Front::ItemLoop => read_item_loop(source),
+        Front::End => read_end(source),
     }
-    Ok(at)
 }
 
 /// The place after what is read at the front of a text.
