@@ -1,4 +1,5 @@
-//! The program `vsim`: hands the words and the real world to the command, and ends with its status.
+//! The program `vsim`: hands the words and the real world to the command, and ends with its status. Words among which
+//! `--lint-only` stands are those of the command that checks files.
 #![tactic(auto)]
 
 use run_status::{Status, out_of_memory};
@@ -8,6 +9,7 @@ use std::rt::Env;
 use std::{env, io};
 use vs_world::RealWorld;
 use vsim_cli::vsim;
+use vsim_lint::lint_only;
 
 // The words after the program's name. One that is no text in UTF-8 is `InvalidData`.
 fn words<R: Env + AllocGlobal>(rt: &R) -> io::Result<Vec<String>> {
@@ -18,12 +20,20 @@ fn words<R: Env + AllocGlobal>(rt: &R) -> io::Result<Vec<String>> {
     Ok(words)
 }
 
+// Whether the words ask for a check of files.
+fn asks_for_check(words: &[String]) -> bool {
+    words
+        .iter()
+        .any(|word| word.as_bytes() == b"--lint-only".as_slice())
+}
+
 fn main(rt: HostRuntime) -> ExitCode {
     let Ok(files) = rt.clone() else {
         return ExitCode::from(Status::NoMemory.code());
     };
     let mut world = RealWorld::new(files, rt.stdout(), rt.stderr());
     let status = match words(&rt) {
+        Ok(words) if asks_for_check(&words) => lint_only(rt.alloc(), &words, &mut world),
         Ok(words) => vsim(&rt, rt.alloc(), &words, &mut world),
         Err(fault) => match fault.kind() {
             ErrorKind::OutOfMemory => out_of_memory(&mut world),

@@ -1,0 +1,11 @@
+pub mod Words
+pub mod Names
+pub mod FaultText
+pub mod Refusal
+pub mod Inputs
+pub mod InputLaws
+pub mod Lexing
+pub mod LexingLaws
+pub mod Check
+pub mod CheckLaws
+pub mod EndLaws

@@ -1,0 +1,194 @@
+// The text of every fault, in the order of the manual (docs/FORMATS.md), and the refusal by it.
+ghost use Rattle.std.specs.Prelude.{◌≡◌, ◌<◌, ◌++◌, length, IfSome, map, slice_get};
+ghost use Rattle.run_status.specs.Answer.{Refuses};
+ghost use Rattle.run_status.specs.Written.{OnlyWrites};
+ghost use Rattle.sv_tree.specs.Tokens.{AreNamed};
+ghost use Rattle.sv_pp.specs.Answer.{IsSpelled};
+ghost use Rattle.vsim_lint.specs.FaultText as text;
+ghost use Rattle.vsim_lint.specs.Refusal.{RefusesLexing, RefusesPreprocessing, RefusesParsing};
+
+use crate::texts::text_at;
+use parse_expr::ParseFault;
+use run_status::{Status, out_of_memory, refuse, refuse_at};
+use sv_lex::LexFault;
+use sv_pp::{PpFault, without_backquote};
+use sv_tree::{NameId, Names, Token};
+use vs_base::Origin;
+use vs_world::World;
+
+const MANY_TOKENS: &[u8] = b"too many tokens";
+
+/// Refuses words that are no command.
+pub fn refuse_words<W: World>(world: &mut W) -> Status
+    ensures told { Refuses result text.usage (W.written world.old) (W.written world.new) (W.faults world.old) (W.faults world.new) }
+    ensures rest { OnlyWrites (W.faults world.old) (W.faults world.new) (W.absent world.old) (W.absent world.new) (W.files world.old) (W.files world.new) (W.made world.old) (W.made world.new) }
+{
+    refuse(world, b"usage", b"")
+}
+
+/// Refuses a file that is too long.
+pub fn refuse_length<W: World>(world: &mut W, file: &[u8]) -> Status
+    ensures told { Refuses result (text.too_long file.now) (W.written world.old) (W.written world.new) (W.faults world.old) (W.faults world.new) }
+    ensures rest { OnlyWrites (W.faults world.old) (W.faults world.new) (W.absent world.old) (W.absent world.new) (W.files world.old) (W.files world.new) (W.made world.old) (W.made world.new) }
+{
+    refuse(world, file, b": longer than 4194304 bytes")
+}
+
+// Refuses by a text about a place.
+fn refuse_place<W: World>(
+    world: &mut W,
+    files: &[Vec<u8>],
+    at: Origin,
+    start: &[u8],
+    end: &[u8],
+) -> Status
+    ensures told { Refuses result (text.at_place (map (λ f. f.items) files.now) at (start.now ++ end.now)) (W.written world.old) (W.written world.new) (W.faults world.old) (W.faults world.new) }
+    ensures rest { OnlyWrites (W.faults world.old) (W.faults world.new) (W.absent world.old) (W.absent world.new) (W.files world.old) (W.files world.new) (W.made world.old) (W.made world.new) }
+{
+    refuse_at(world, text_at(files, at.file as usize), at, start, end)
+}
+
+/// Refuses by a fault of lexing.
+pub fn refuse_lexing<W: World>(world: &mut W, files: &[Vec<u8>], fault: LexFault) -> Status
+    ensures told { RefusesLexing result (map (λ f. f.items) files.now) fault (W.written world.old) (W.written world.new) (W.faults world.old) (W.faults world.new) }
+    ensures rest { OnlyWrites (W.faults world.old) (W.faults world.new) (W.absent world.old) (W.absent world.new) (W.files world.old) (W.files world.new) (W.made world.old) (W.made world.new) }
+{
+    match fault {
+        LexFault::BadChar(at) => refuse_place(world, files, at, b"bad character", b""),
+        LexFault::OpenComment(at) => refuse_place(world, files, at, b"open comment", b""),
+        LexFault::OpenString(at) => refuse_place(world, files, at, b"open string", b""),
+        LexFault::TooMany => refuse(world, MANY_TOKENS, b""),
+        LexFault::NoMemory => out_of_memory(world),
+    }
+}
+
+// Refuses by a text with a directive's name.
+fn refuse_directive<W: World>(
+    world: &mut W,
+    files: &[Vec<u8>],
+    at: Origin,
+    start: &[u8],
+    names: &Names,
+    name: NameId,
+) -> Status
+    requires known { name.0 < length names.now }
+    ensures told { Refuses result (text.at_place (map (λ f. f.items) files.now) at (start.now ++ text.unquoted names.now name.0)) (W.written world.old) (W.written world.new) (W.faults world.old) (W.faults world.new) }
+    ensures rest { OnlyWrites (W.faults world.old) (W.faults world.new) (W.absent world.old) (W.absent world.new) (W.files world.old) (W.files world.new) (W.made world.old) (W.made world.new) }
+{
+    refuse_place(world, files, at, start, without_backquote(names.text(name)))
+}
+
+/// Refuses by a fault of preprocessing.
+pub fn refuse_preprocessing<W: World>(
+    world: &mut W,
+    files: &[Vec<u8>],
+    names: &Names,
+    fault: PpFault,
+) -> Status
+    requires spelled { IsSpelled names.now fault }
+    ensures told { RefusesPreprocessing result (map (λ f. f.items) files.now) names.now fault (W.written world.old) (W.written world.new) (W.faults world.old) (W.faults world.new) }
+    ensures rest { OnlyWrites (W.faults world.old) (W.faults world.new) (W.absent world.old) (W.absent world.new) (W.files world.old) (W.files world.new) (W.made world.old) (W.made world.new) }
+{
+    match fault {
+        PpFault::UnknownMacro(at, name) => {
+            refuse_directive(world, files, at, b"unknown macro ", names, name)
+        }
+        PpFault::MacroDepth(at) => refuse_place(world, files, at, b"macros too deep", b""),
+        PpFault::OpenIf(at) => refuse_place(world, files, at, b"open ifdef", b""),
+        PpFault::StrayElse(at) => refuse_place(world, files, at, b"stray else", b""),
+        PpFault::Directive(at, name) => {
+            refuse_directive(world, files, at, b"directive ", names, name)
+        }
+        PpFault::TooMany => refuse(world, MANY_TOKENS, b""),
+        PpFault::NoMemory => out_of_memory(world),
+    }
+}
+
+/// Refuses a number whose spelling is none: the token of this number, from 0.
+pub fn refuse_number<W: World>(world: &mut W, files: &[Vec<u8>], tokens: &[Token], k: u32) -> Status
+    requires within { k < length tokens.now }
+    ensures told { Refuses result (text.bad_number (map (λ f. f.items) files.now) tokens.now k) (W.written world.old) (W.written world.new) (W.faults world.old) (W.faults world.new) }
+    ensures rest { OnlyWrites (W.faults world.old) (W.faults world.new) (W.absent world.old) (W.absent world.new) (W.files world.old) (W.files world.new) (W.made world.old) (W.made world.new) }
+{
+    refuse_place(world, files, tokens[k as usize].at, b"bad number", b"")
+}
+
+// Refuses by a text about a token, or about the end where there is no such token.
+fn refuse_token<W: World>(
+    world: &mut W,
+    files: &[Vec<u8>],
+    token: Option<Token>,
+    start: &[u8],
+    end: &[u8],
+    past: &[u8],
+) -> Status
+    ensures told { Refuses result (text.of_token (map (λ f. f.items) files.now) token (start.now ++ end.now) past.now) (W.written world.old) (W.written world.new) (W.faults world.old) (W.faults world.new) }
+    ensures rest { OnlyWrites (W.faults world.old) (W.faults world.new) (W.absent world.old) (W.absent world.new) (W.files world.old) (W.files world.new) (W.made world.old) (W.made world.new) }
+{
+    match token {
+        Some(token) => refuse_place(world, files, token.at, start, end),
+        None => refuse(world, past, b""),
+    }
+}
+
+// The token of a number, where there is one.
+fn token_at(tokens: &[Token], k: u32) -> Option<Token>
+    ensures { result ≡ slice_get tokens.now k }
+{
+    tokens.get(k as usize).copied()
+}
+
+// The spelling of a token, empty where there is none.
+fn spelling_of<'a>(names: &'a Names, token: Option<Token>) -> &'a [u8]
+    requires { IfSome token (λ t. t.name.0 < length names.now) }
+    ensures { result.now ≡ text.spelled names.now token }
+{
+    match token {
+        Some(token) => names.text(token.name),
+        None => &[],
+    }
+}
+
+/// Refuses by a fault of parsing.
+pub fn refuse_parsing<W: World>(
+    world: &mut W,
+    files: &[Vec<u8>],
+    names: &Names,
+    tokens: &[Token],
+    fault: ParseFault,
+) -> Status
+    requires named { AreNamed names.now tokens.now }
+    ensures told { RefusesParsing result (map (λ f. f.items) files.now) names.now tokens.now fault (W.written world.old) (W.written world.new) (W.faults world.old) (W.faults world.new) }
+    ensures rest { OnlyWrites (W.faults world.old) (W.faults world.new) (W.absent world.old) (W.absent world.new) (W.files world.old) (W.files world.new) (W.made world.old) (W.made world.new) }
+{
+    match fault {
+        ParseFault::Construct(k) => {
+            let token = token_at(tokens, k);
+            let spelling = spelling_of(names, token);
+            refuse_token(world, files, token, b"not in this subset: ", spelling, b"")
+        }
+        ParseFault::Syntax(k) => {
+            let token = token_at(tokens, k);
+            refuse_token(
+                world,
+                files,
+                token,
+                b"syntax error",
+                b"",
+                b"syntax error at end of input",
+            )
+        }
+        ParseFault::TooDeep(k) => {
+            let token = token_at(tokens, k);
+            refuse_token(
+                world,
+                files,
+                token,
+                b"nested too deep",
+                b"",
+                b"nested too deep",
+            )
+        }
+        ParseFault::NoMemory => out_of_memory(world),
+    }
+}

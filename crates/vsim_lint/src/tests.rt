@@ -1,0 +1,168 @@
+use super::lint_only;
+use run_status::Status;
+use std::alloc::{AllocError, Global};
+use std::process::Abort;
+use std::test::Fail;
+use vs_world::{MemFile, MemWorld, Op, Planned, Stream};
+
+// A command over files, how many bytes a call moves at most and which call fails, and what must come of it.
+#[derive(Clone, Copy)]
+struct Case<'a> {
+    title: &'a str,
+    words: &'a [&'a str],
+    files: &'a [(&'a str, &'a str)],
+    most: usize,
+    fails: Option<Planned>,
+    status: Status,
+    errors: &'a str,
+    faults: u64,
+    absent: u64,
+}
+
+fn file(alloc: Global, name: &str, text: &str) -> Result<MemFile, AllocError> {
+    Ok(MemFile {
+        name: Vec::from_slice(alloc, name.as_bytes())?,
+        bytes: Vec::from_slice(alloc, text.as_bytes())?,
+    })
+}
+
+fn world(alloc: Global, case: &Case<'_>) -> Result<MemWorld, AllocError> {
+    let mut files = Vec::new(alloc);
+    for (name, text) in case.files {
+        files.push(file(alloc, name, text)?)?;
+    }
+    let mut fails = Vec::new(alloc);
+    if let Some(planned) = case.fails {
+        fails.push(planned)?;
+    }
+    MemWorld::new(alloc, files, case.most.max(1), 4096, fails)
+}
+
+fn words(alloc: Global, case: &Case<'_>) -> Result<Vec<String>, AllocError> {
+    let mut words = Vec::new(alloc);
+    for word in case.words {
+        words.push(String::from_str(alloc, word)?)?;
+    }
+    Ok(words)
+}
+
+fn try_case<R: Abort>(rt: &R, alloc: Global, case: &Case<'_>) -> Result<(), AllocError> {
+    let words = words(alloc, case)?;
+    let mut world = world(alloc, case)?;
+    let status = lint_only(alloc, &words, &mut world);
+    let title = case.title;
+    assert_eq!(rt; status, case.status, "{title}");
+    assert_eq!(rt; world.bytes_of(Stream::Out), b"".as_slice(), "{title}");
+    assert_eq!(rt;
+        world.bytes_of(Stream::Errors),
+        case.errors.as_bytes(),
+        "{title}"
+    );
+    assert_eq!(rt; world.fault_count(), case.faults, "{title}");
+    assert_eq!(rt; world.absent_count(), case.absent, "{title}");
+    Ok(())
+}
+
+const WORDS: [&str; 2] = ["--lint-only", "d.sv"];
+
+// A design that is refused by a line.
+fn refused<'a>(
+    title: &'a str,
+    files: &'a [(&'a str, &'a str)],
+    words: &'a [&'a str],
+    errors: &'a str,
+) -> Case<'a> {
+    Case {
+        title,
+        words,
+        files,
+        most: 100_000,
+        fails: None,
+        status: Status::Refused,
+        errors,
+        faults: 0,
+        absent: 0,
+    }
+}
+
+const DESIGN: [(&str, &str); 1] = [(
+    "d.sv",
+    "`define W 4\nmodule top(output [`W-1:0] y); assign y = `W'hd; endmodule\n",
+)];
+
+// With ample memory none of these ends for want of memory.
+#[test]
+fn files_are_checked_in_the_order_of_refusals(rt: HostRuntime) -> Result<(), Fail> {
+    let cases = [
+        Case {
+            status: Status::Done,
+            ..refused("a design", &DESIGN, &WORDS, "")
+        },
+        refused("no words", &DESIGN, &[], "vsim: usage\n"),
+        refused("no file", &DESIGN, &["--lint-only"], "vsim: usage\n"),
+        refused(
+            "the word twice",
+            &DESIGN,
+            &["--lint-only", "d.sv", "--lint-only"],
+            "vsim: usage\n",
+        ),
+        refused(
+            "a byte that begins no token",
+            &[("d.sv", "module top;\n  wire \\a ; endmodule\n")],
+            &WORDS,
+            "vsim: d.sv:2:8: bad character\n",
+        ),
+        refused(
+            "the second file has the fault",
+            &[("d.sv", "module top; endmodule\n"), ("e.sv", "`else\n")],
+            &["d.sv", "--lint-only", "e.sv"],
+            "vsim: e.sv:1:1: stray else\n",
+        ),
+        refused(
+            "lexing of all files comes before preprocessing",
+            &[("d.sv", "`nope\n"), ("e.sv", "\"open\n")],
+            &["--lint-only", "d.sv", "e.sv"],
+            "vsim: e.sv:1:1: open string\n",
+        ),
+        refused(
+            "a macro that is not defined",
+            &[("d.sv", "module top; `nope endmodule\n")],
+            &WORDS,
+            "vsim: d.sv:1:13: unknown macro nope\n",
+        ),
+        refused(
+            "a number without digits",
+            &[("d.sv", "module top; wire a = 8'sd; endmodule\n")],
+            &WORDS,
+            "vsim: d.sv:1:23: bad number\n",
+        ),
+        Case {
+            status: Status::WorldFault,
+            absent: 1,
+            ..refused("no such file", &[], &WORDS, "vsim: cannot read d.sv\n")
+        },
+        Case {
+            status: Status::WorldFault,
+            faults: 1,
+            fails: Some(Planned {
+                op: Op::Read,
+                nth: 1,
+            }),
+            ..refused("a read fails", &DESIGN, &WORDS, "vsim: cannot read d.sv\n")
+        },
+        Case {
+            status: Status::WorldFault,
+            faults: 1,
+            most: 1,
+            fails: Some(Planned {
+                op: Op::Write(Stream::Errors),
+                nth: 9,
+            }),
+            ..refused("a refusal is cut short", &DESIGN, &[], "vsim: us")
+        },
+    ];
+    for case in &cases {
+        try_case(&rt, rt.alloc(), case)?;
+    }
+    Ok(())
+}
