@@ -36,8 +36,8 @@
 //! asks, and each `else` stands with the nearest `if` (`Reads`, of `sv_tree`). It is at most 128
 //! deep. `Construct` comes exactly where a token is outside, with the first one. The other faults
 //! come only where none is, and name a token or the end (`specs/Faults.antt`). That theirs is the
-//! least such number is not proved; the tests have a table of sentences of each production that
-//! break at a known place.
+//! least such number is not proved; `tests/sentences` of the repository has sentences of
+//! each production that break at a known place.
 //!
 //! `proofs/Rules.antt` has a rule for each form of an item, from its parts to the whole, and the
 //! proof of each function applies one. A list with commas is read by one function for all kinds
