@@ -59,8 +59,6 @@ mod lists;
 mod modules;
 mod processes;
 mod sources;
-#[cfg(test)]
-mod tests;
 
 pub use parse_expr::ParseFault;
 pub use sources::parse;
