@@ -5,3 +5,4 @@ pub mod Walks
 pub mod Ranges
 pub mod Prefixes
 pub mod Exprs
+pub mod Targets

@@ -18,7 +18,8 @@ use Rattle.sv_expr.specs.declared.operator.Class.{Class}
 use Rattle.sv_expr.specs.declared.operator.Class.TheVariants as class
 use Rattle.sv_sem.specs.Types.{wider, wider_assoc, in_context, in_context-same}
 use Rattle.sv_expr.specs.Bound.{bit, fine, ◌before◌}
-use Rattle.sv_expr.specs.Environment.{Environment, Fixed}
+use Rattle.sv_expr.specs.declared.scope.Fixed.{Fixed}
+use Rattle.sv_expr.specs.Environment.{Environment}
 use Rattle.sv_expr.specs.Operator.{class_of, operated, shifted, compared}
 use Rattle.sv_expr.specs.Meaning.{Meaning, Operand, Chosen, alone, combine, combined_typed, compared_value, level, level_class, choice_kind, choice_fault, choice_value, operands_fault, more_width, selected, element, named_by, symbol, meaning_of, select_typed, chosen_of, operand_of}
 use Rattle.sv_expr.specs.MeaningLaws.{step-roll, choice-roll}

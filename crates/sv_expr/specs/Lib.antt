@@ -4,4 +4,6 @@ pub mod Literal
 pub mod Operator
 pub mod Meaning
 pub mod MeaningLaws
+pub mod Target
+pub mod TargetLaws
 pub mod Walk

@@ -21,7 +21,8 @@ use Rattle.sv_expr.specs.declared.operator.Class.TheVariants as class
 use Rattle.sv_expr.specs.declared.operator.Function.{Function}
 use Rattle.sv_expr.specs.declared.operator.Function.TheVariants as function
 use Rattle.sv_sem.specs.Types.{wider, decimal_type, in_context}
-use Rattle.sv_expr.specs.Environment.{Environment, Fixed, text}
+use Rattle.sv_expr.specs.declared.scope.Fixed.{Fixed}
+use Rattle.sv_expr.specs.Environment.{Environment, text}
 use Rattle.sv_expr.specs.Bound.{bit, fine, ◌before◌, is_width, ranged, whole_part}
 use Rattle.sv_expr.specs.Literal.{decimal_number, based_number, based_signed, without_size, of_size, literal_value, nothing, fill_value}
 use Rattle.sv_expr.specs.Operator.{class_of, combined, operated, shifted, compared, is_reduction, prefixed, function_of}
@@ -268,3 +269,7 @@ module _ (env : Environment) where
   -- the value of a constant expression in a context
   abbrev pub ValueOf : Expr → ValueType → Number
   ValueOf e context = (meaning_of e).value context
+
+  -- the value of a constant expression alone, read with its own sign
+  abbrev pub OwnReadingOf : Expr → ℤ
+  OwnReadingOf e = own_reading (meaning_of e)

@@ -9,22 +9,18 @@ use Rattle.sv_tree.specs.declared.tree.expr.Choice.{Choice}
 use Rattle.sv_tree.specs.declared.tree.expr.Select.{Select}
 use Rattle.sv_tree.specs.declared.tree.expr.Step.{Step}
 use Rattle.sv_expr.specs.declared.typed.Typed.{Typed}
-use Rattle.sv_expr.specs.declared.scope.Constant.{Constant}
+use Rattle.sv_expr.specs.declared.scope.Fixed.{Fixed}
 use Rattle.sv_expr.specs.declared.scope.Whole.{Whole}
 use Rattle.sv_expr.specs.declared.walk.Left.{Left}
 use Rattle.sv_expr.specs.declared.operator.Class.{Class}
 use Rattle.sv_expr.specs.declared.operator.Class.TheVariants as class
 use Rattle.sv_sem.specs.Types.{wider, in_context}
 use Rattle.sv_expr.specs.Bound.{bit, unsigned, ◌before◌}
-use Rattle.sv_expr.specs.Environment.{Environment, Fixed}
+use Rattle.sv_expr.specs.Environment.{Environment}
 use Rattle.sv_expr.specs.Operator.{class_of, operated, shifted, compared, is_reduction, prefixed}
 use Rattle.sv_expr.specs.Meaning.{Meaning, alone, combined_typed, symbol, meaning_of, select_typed}
 
 -- ---- names
-
-abbrev pub fixed : Option Constant → Option Fixed
-fixed (Some k) = Some (record { kind = k.kind; value = k.value })
-fixed None = None
 
 -- the whole that a name denotes, and whether that is an element of a memory
 abbrev pub whole_by : Option Fixed → Option ValueType → Option ValueType → Whole

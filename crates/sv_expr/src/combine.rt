@@ -137,7 +137,7 @@ pub fn once() -> Own
 }
 
 /// A number of at most 64 bits, read with or without a sign.
-fn reading(value: Bits, signed: bool) -> i128
+pub fn reading(value: Bits, signed: bool) -> i128
     requires { value.width ≤ 64 }
     ensures value { result ≡ number_reading signed value }
     ensures low { neg_ℤ (pos (2 ^ 64)) ≤ℤ result }

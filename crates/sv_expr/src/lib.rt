@@ -50,11 +50,13 @@ mod operator;
 mod prefix;
 mod scope;
 mod spelled;
+mod target;
 #[cfg(test)]
 mod tests;
 mod typed;
 mod walk;
 
-pub use expression::{const_value, expr_type};
+pub use expression::{const_value, expr_type, lvalue_type, own_value};
 pub use fault::WalkFault;
-pub use scope::{Constant, Declared, ScopeView};
+pub use scope::{Constant, Declared, Denoted, Fixed, ScopeView};
+pub use spelled::{symbol, text_of};

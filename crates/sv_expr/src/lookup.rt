@@ -1,46 +1,23 @@
 //! Names by what a scope's view tells of them.
 
-ghost use Rattle.std.specs.Prelude.{◌≡◌, false, IfSome};
+ghost use Rattle.std.specs.Prelude.{◌≡◌, false};
 ghost use Rattle.sv_expr.specs.Bound.{IsWidth};
-ghost use Rattle.sv_expr.specs.Environment.{environment, first_constant, first_declared};
+ghost use Rattle.sv_expr.specs.Environment.{denotes, environment};
 ghost use Rattle.sv_expr.specs.Meaning.{kind_or_bit, fixed_value};
-ghost use Rattle.sv_expr.specs.Walk.{fixed, whole_by, by_selects as typed_by_selects};
+ghost use Rattle.sv_expr.specs.Walk.{whole_by, by_selects as typed_by_selects};
 
 use crate::bound::{BIT, nothing};
-use crate::scope::{Constant, Declared, ScopeView, Whole};
+use crate::scope::{Denoted, ScopeView, Whole};
 use crate::typed::Typed;
 use sv_sem::in_context;
 use sv_tree::NameId;
 use vs_base::{Bits, ValueType};
 
-/// The first constant of a name.
-fn constant(values: &[Constant], name: NameId) -> Option<Constant>
-    ensures { fixed result ≡ first_constant values.now name.0 }
+/// What a name denotes.
+fn denoted(scope: &ScopeView<'_>, name: NameId) -> Denoted
+    ensures { result ≡ denotes scope.now name.0 }
 {
-    let mut rest = values;
-    while let [k, more @ ..] = rest {
-        if k.name.0 == name.0 {
-            return Some(*k);
-        }
-        rest = more;
-    }
-    None
-}
-
-/// The type of the first declaration of a name.
-fn declared(list: &[Declared], name: NameId) -> Option<ValueType>
-    ensures kind { result ≡ first_declared list.now name.0 }
-    ensures width { IfSome result (λ kind. IsWidth kind.width) }
-{
-    let mut rest = list;
-    while let [d, more @ ..] = rest {
-        if d.name.0 == name.0 {
-            let found = *d;
-            return Some(found.kind);
-        }
-        rest = more;
-    }
-    None
+    scope.table.get(name)
 }
 
 /// The whole that a name denotes. What is no constant, variable or memory counts as one bit.
@@ -48,18 +25,14 @@ pub fn whole(scope: &ScopeView<'_>, name: NameId) -> Whole
     ensures whole { let env = environment scope.now in result ≡ whole_by (env.constant name.0) (env.variable name.0) (env.memory name.0) }
     ensures width { IsWidth result.kind.width }
 {
-    if let Some(k) = constant(scope.values, name) {
-        return plain(k.kind);
-    }
-    if let Some(kind) = declared(scope.variables, name) {
-        return plain(kind);
-    }
-    match declared(scope.memories, name) {
-        Some(kind) => Whole {
-            kind,
+    match denoted(scope, name) {
+        Denoted::Constant(fixed) | Denoted::Turn(fixed) => plain(fixed.kind),
+        Denoted::Variable(declared) => plain(declared.kind),
+        Denoted::Memory(declared) => Whole {
+            kind: declared.kind,
             is_memory: true,
         },
-        None => plain(BIT),
+        Denoted::Nothing | Denoted::Import(_) => plain(BIT),
     }
 }
 
@@ -94,9 +67,9 @@ pub fn constant_value(scope: &ScopeView<'_>, name: NameId, context: ValueType) -
     requires { IsWidth context.width }
     ensures { result ≡ fixed_value ((environment scope.now).constant name.0) context }
 {
-    match constant(scope.values, name) {
-        Some(k) => in_context(k.value, context),
-        None => nothing(context),
+    match denoted(scope, name) {
+        Denoted::Constant(fixed) | Denoted::Turn(fixed) => in_context(fixed.value, context),
+        _ => nothing(context),
     }
 }
 
@@ -105,8 +78,8 @@ pub fn import_kind(scope: &ScopeView<'_>, name: NameId) -> ValueType
     ensures kind { result ≡ kind_or_bit ((environment scope.now).imported name.0) }
     ensures width { IsWidth result.width }
 {
-    match declared(scope.imports, name) {
-        Some(kind) => kind,
-        None => BIT,
+    match denoted(scope, name) {
+        Denoted::Import(declared) => declared.kind,
+        _ => BIT,
     }
 }

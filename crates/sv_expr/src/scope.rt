@@ -3,6 +3,7 @@
 ghost use Rattle.std.specs.Prelude.{◌≡◌, ◌≤◌};
 ghost use Rattle.vs_base.specs.declared.limits.TheConstants.{WIDTH};
 
+use scope_table::ScopeTable;
 use sv_tree::{NameId, Names};
 use vs_base::{Bits, ValueType};
 
@@ -17,29 +18,51 @@ pub struct Constant {
     ghost same_width: { value.width ≡ kind.width },
 }
 
-/// A name with a type: a variable, a memory and the type of its elements, or an import and the type of its result.
+/// A fixed value with its type, which is as wide.
+#[derive(Clone, Copy, Debug, PartialEq, Eq)]
+pub struct Fixed {
+    pub kind: ValueType,
+    pub value: Bits,
+    ghost some: { 1 ≤ kind.width },
+    ghost most: { kind.width ≤ WIDTH },
+    ghost same_width: { value.width ≡ kind.width },
+}
+
+/// A thing with a type that is read when the design runs.
 #[derive(Clone, Copy, Debug, PartialEq, Eq)]
 pub struct Declared {
-    pub name: NameId,
     pub kind: ValueType,
+    /// A number of the user's own, which no call here looks at.
+    pub item: u32,
     ghost some: { 1 ≤ kind.width },
     ghost most: { kind.width ≤ WIDTH },
 }
 
-/// What names denote where an expression stands. Of several entries with one name the first counts, and a name
-/// is looked for among the constants, the variables, the memories and then the imports.
+/// What a name denotes.
+#[derive(Clone, Copy, Debug, PartialEq, Eq)]
+pub enum Denoted {
+    /// It is not declared, or has no value: a genvar outside its loop, an instance, a block, an import without a
+    /// result.
+    Nothing,
+    /// A parameter, or a genvar in its loop.
+    Constant(Fixed),
+    /// The variable of a statement's loop, in one turn of it. To types and values it is a constant.
+    Turn(Fixed),
+    /// A variable.
+    Variable(Declared),
+    /// A memory, with the type of an element.
+    Memory(Declared),
+    /// An import, with the type of its result.
+    Import(Declared),
+}
+
+/// What names denote where an expression stands.
 #[derive(Clone, Copy)]
 pub struct ScopeView<'a> {
     /// The texts of all tokens.
     pub names: &'a Names,
-    /// The constants of the scope and of those round it, those of the innermost first.
-    pub values: &'a [Constant],
-    /// The variables.
-    pub variables: &'a [Declared],
-    /// The memories, each with the type of an element.
-    pub memories: &'a [Declared],
-    /// The imports that give a result, each with its type.
-    pub imports: &'a [Declared],
+    /// What each name denotes.
+    pub table: &'a ScopeTable<Denoted>,
 }
 
 /// The whole that a name denotes: its type, or that of an element where it is a memory.

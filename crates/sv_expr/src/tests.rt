@@ -1,13 +1,14 @@
 //! Expressions that are built by hand, since no parser is in reach here.
 
 use crate::fault::WalkFault;
-use crate::scope::{Constant, Declared, ScopeView};
-use crate::{const_value, expr_type};
+use crate::scope::{Declared, Denoted, Fixed, ScopeView};
+use crate::{const_value, expr_type, lvalue_type};
+use scope_table::ScopeTable;
 use sqlite_items::{Boxed, Items};
 use std::alloc::Global;
 use std::process::Abort;
 use std::test::Fail;
-use sv_tree::{Choice, Expr, Names, Step, Token, TokenKind};
+use sv_tree::{Choice, Expr, Lvalue, LvalueStep, NameId, Names, Step, Token, TokenKind};
 use vs_base::{Bits, Origin, ValueType};
 
 fn at(col: u32) -> Origin {
@@ -100,39 +101,42 @@ fn fill(names: &mut Names, alloc: Global, text: &[u8]) -> Result<Expr, Fail> {
     Ok(Expr::Fill(token(names, alloc, TokenKind::Fill, text, 1)?))
 }
 
-fn alone(names: &Names) -> ScopeView<'_> {
-    ScopeView {
-        names,
-        values: &[],
-        variables: &[],
-        memories: &[],
-        imports: &[],
-    }
+fn nothing(alloc: Global) -> Result<ScopeTable<Denoted>, Fail> {
+    Ok(ScopeTable::new(alloc, 0, Denoted::Nothing)?)
+}
+
+fn view<'a>(names: &'a Names, table: &'a ScopeTable<Denoted>) -> ScopeView<'a> {
+    ScopeView { names, table }
 }
 
 // The type, and the value in a context of so many bits.
-fn gives(rt: &impl Abort, names: &Names, expr: &Expr, width: u32, signed: bool, value: Bits) {
-    let scope = alone(names);
+fn gives(
+    rt: &impl Abort,
+    scope: &ScopeView<'_>,
+    expr: &Expr,
+    width: u32,
+    signed: bool,
+    value: Bits,
+) {
     let kind = ValueType { width, signed };
-    assert!(rt; expr_type(&scope, expr) == Ok(kind), "type");
+    assert!(rt; expr_type(scope, expr) == Ok(kind), "type");
     let context = ValueType {
         width: value.width(),
         signed,
     };
     if context.width <= 64 {
-        assert!(rt; const_value(&scope, expr, context) == Ok(value), "value");
+        assert!(rt; const_value(scope, expr, context) == Ok(value), "value");
     }
 }
 
-fn fails(rt: &impl Abort, names: &Names, expr: &Expr, fault: WalkFault) {
-    let scope = alone(names);
-    assert!(rt; expr_type(&scope, expr) == Err(fault), "fault of the type");
+fn fails(rt: &impl Abort, scope: &ScopeView<'_>, expr: &Expr, fault: WalkFault) {
+    assert!(rt; expr_type(scope, expr) == Err(fault), "fault of the type");
     let context = ValueType {
         width: 8,
         signed: false,
     };
     assert!(rt;
-        const_value(&scope, expr, context) == Err(fault),
+        const_value(scope, expr, context) == Err(fault),
         "fault of the value"
     );
 }
@@ -167,9 +171,17 @@ const MINUS: &[u8] = b"-";
 fn evaluates_operators(rt: HostRuntime) -> Result<(), Fail> {
     let alloc = rt.alloc();
     let mut names = Names::new(alloc)?;
+    let table = nothing(alloc)?;
     let two: Literal<'_> = (NONE, b"2", NONE);
     let quotient = binary(&mut names, alloc, (MINUS, b"7", NONE), b"/", two)?;
-    gives(&rt, &names, &quotient, 32, true, Bits::new(32, 0xffff_fffd));
+    gives(
+        &rt,
+        &view(&names, &table),
+        &quotient,
+        32,
+        true,
+        Bits::new(32, 0xffff_fffd),
+    );
     let sum = binary(
         &mut names,
         alloc,
@@ -177,8 +189,15 @@ fn evaluates_operators(rt: HostRuntime) -> Result<(), Fail> {
         b"+",
         (NONE, b"4", b"'h1"),
     )?;
-    gives(&rt, &names, &sum, 4, false, Bits::new(4, 0));
-    gives(&rt, &names, &sum, 4, false, Bits::new(8, 0x10));
+    gives(&rt, &view(&names, &table), &sum, 4, false, Bits::new(4, 0));
+    gives(
+        &rt,
+        &view(&names, &table),
+        &sum,
+        4,
+        false,
+        Bits::new(8, 0x10),
+    );
     let rest = binary(
         &mut names,
         alloc,
@@ -186,7 +205,14 @@ fn evaluates_operators(rt: HostRuntime) -> Result<(), Fail> {
         b"%",
         (NONE, b"0", NONE),
     )?;
-    gives(&rt, &names, &rest, 32, true, Bits::new(32, 0));
+    gives(
+        &rt,
+        &view(&names, &table),
+        &rest,
+        32,
+        true,
+        Bits::new(32, 0),
+    );
     Ok(())
 }
 
@@ -194,11 +220,26 @@ fn evaluates_operators(rt: HostRuntime) -> Result<(), Fail> {
 fn shifts_by_the_sign_of_the_result(rt: HostRuntime) -> Result<(), Fail> {
     let alloc = rt.alloc();
     let mut names = Names::new(alloc)?;
+    let table = nothing(alloc)?;
     let one: Literal<'_> = (NONE, b"1", NONE);
     let plain = binary(&mut names, alloc, (NONE, b"3", b"'b101"), b">>>", one)?;
-    gives(&rt, &names, &plain, 3, false, Bits::new(3, 2));
+    gives(
+        &rt,
+        &view(&names, &table),
+        &plain,
+        3,
+        false,
+        Bits::new(3, 2),
+    );
     let signed = binary(&mut names, alloc, (NONE, b"3", b"'sb101"), b">>>", one)?;
-    gives(&rt, &names, &signed, 3, true, Bits::new(3, 6));
+    gives(
+        &rt,
+        &view(&names, &table),
+        &signed,
+        3,
+        true,
+        Bits::new(3, 6),
+    );
     let least = binary(
         &mut names,
         alloc,
@@ -206,7 +247,14 @@ fn shifts_by_the_sign_of_the_result(rt: HostRuntime) -> Result<(), Fail> {
         b"/",
         (MINUS, b"8", b"'sd1"),
     )?;
-    gives(&rt, &names, &least, 8, true, Bits::new(8, 0x80));
+    gives(
+        &rt,
+        &view(&names, &table),
+        &least,
+        8,
+        true,
+        Bits::new(8, 0x80),
+    );
     Ok(())
 }
 
@@ -214,9 +262,17 @@ fn shifts_by_the_sign_of_the_result(rt: HostRuntime) -> Result<(), Fail> {
 fn repeats_its_parts(rt: HostRuntime) -> Result<(), Fail> {
     let alloc = rt.alloc();
     let mut names = Names::new(alloc)?;
+    let table = nothing(alloc)?;
     let part = (NONE, b"3".as_slice(), b"'b101".as_slice());
     let twice = replication(&mut names, alloc, (NONE, b"2", NONE), part)?;
-    gives(&rt, &names, &twice, 6, false, Bits::new(6, 0x2d));
+    gives(
+        &rt,
+        &view(&names, &table),
+        &twice,
+        6,
+        false,
+        Bits::new(6, 0x2d),
+    );
     Ok(())
 }
 
@@ -224,9 +280,10 @@ fn repeats_its_parts(rt: HostRuntime) -> Result<(), Fail> {
 fn takes_logarithms(rt: HostRuntime) -> Result<(), Fail> {
     let alloc = rt.alloc();
     let mut names = Names::new(alloc)?;
+    let table = nothing(alloc)?;
     let nine = literal(&mut names, alloc, b"9", NONE)?;
     let log = system(&mut names, alloc, b"$clog2", nine)?;
-    gives(&rt, &names, &log, 32, true, Bits::new(32, 4));
+    gives(&rt, &view(&names, &table), &log, 32, true, Bits::new(32, 4));
     Ok(())
 }
 
@@ -234,9 +291,17 @@ fn takes_logarithms(rt: HostRuntime) -> Result<(), Fail> {
 fn takes_a_fill_alone_as_one_bit(rt: HostRuntime) -> Result<(), Fail> {
     let alloc = rt.alloc();
     let mut names = Names::new(alloc)?;
+    let table = nothing(alloc)?;
     let one = fill(&mut names, alloc, b"'1")?;
     let ones = system(&mut names, alloc, b"$signed", one)?;
-    gives(&rt, &names, &ones, 1, true, Bits::new(8, 0xff));
+    gives(
+        &rt,
+        &view(&names, &table),
+        &ones,
+        1,
+        true,
+        Bits::new(8, 0xff),
+    );
     Ok(())
 }
 
@@ -256,6 +321,7 @@ fn replication(
 fn finds_the_first_fault(rt: HostRuntime) -> Result<(), Fail> {
     let alloc = rt.alloc();
     let mut names = Names::new(alloc)?;
+    let table = nothing(alloc)?;
     let table = [
         (b"0".as_slice(), b"3".as_slice(), WalkFault::BadRange(at(1))),
         (
@@ -268,7 +334,7 @@ fn finds_the_first_fault(rt: HostRuntime) -> Result<(), Fail> {
     for (count, size, fault) in table {
         let part = (NONE, size, b"'b1".as_slice());
         let expr = replication(&mut names, alloc, (NONE, count, NONE), part)?;
-        fails(&rt, &names, &expr, fault);
+        fails(&rt, &view(&names, &table), &expr, fault);
     }
     Ok(())
 }
@@ -278,32 +344,24 @@ fn looks_names_up(rt: HostRuntime) -> Result<(), Fail> {
     let alloc = rt.alloc();
     let mut names = Names::new(alloc)?;
     let name = token(&mut names, alloc, TokenKind::Name, b"P", 1)?;
+    let other = token(&mut names, alloc, TokenKind::Name, b"v", 1)?;
     let kind = ValueType {
         width: 4,
         signed: true,
     };
     let value = Bits::new(4, 0xf);
-    let values = [Constant {
-        name: name.name,
-        kind,
-        value,
-    }];
     let word = ValueType {
         width: 16,
         signed: false,
     };
-    let other = token(&mut names, alloc, TokenKind::Name, b"v", 1)?;
-    let variables = [Declared {
-        name: other.name,
+    let variable = Declared {
         kind: word,
-    }];
-    let scope = ScopeView {
-        names: &names,
-        values: &values,
-        variables: &variables,
-        memories: &[],
-        imports: &[],
+        item: 0,
     };
+    let mut table = ScopeTable::new(alloc, 2, Denoted::Nothing)?;
+    table.declare(name.name, Denoted::Constant(Fixed { kind, value }))?;
+    table.declare(other.name, Denoted::Variable(variable))?;
+    let scope = view(&names, &table);
     let constant = Expr::Name {
         name,
         selects: Items::new(alloc),
@@ -353,14 +411,29 @@ fn three(names: &mut Names, alloc: Global, mark: &[u8], digits: [&[u8]; 3]) -> R
 fn groups_from_the_left(rt: HostRuntime) -> Result<(), Fail> {
     let alloc = rt.alloc();
     let mut names = Names::new(alloc)?;
+    let table = nothing(alloc)?;
     let difference = three(&mut names, alloc, b"-", [b"9", b"4", b"3"])?;
-    gives(&rt, &names, &difference, 32, true, Bits::new(32, 2));
+    gives(
+        &rt,
+        &view(&names, &table),
+        &difference,
+        32,
+        true,
+        Bits::new(32, 2),
+    );
     let greater = three(&mut names, alloc, b">", [b"3", b"2", b"1"])?;
-    gives(&rt, &names, &greater, 1, false, Bits::new(1, 0));
+    gives(
+        &rt,
+        &view(&names, &table),
+        &greater,
+        1,
+        false,
+        Bits::new(1, 0),
+    );
     let all = three(&mut names, alloc, b"&&", [b"3", b"2", b"0"])?;
-    gives(&rt, &names, &all, 1, false, Bits::new(1, 0));
+    gives(&rt, &view(&names, &table), &all, 1, false, Bits::new(1, 0));
     let some = three(&mut names, alloc, b"||", [b"0", b"2", b"0"])?;
-    gives(&rt, &names, &some, 1, false, Bits::new(1, 1));
+    gives(&rt, &view(&names, &table), &some, 1, false, Bits::new(1, 1));
     Ok(())
 }
 
@@ -386,11 +459,68 @@ fn choose(alloc: Global, choice: Choice, last: Expr) -> Result<Expr, Fail> {
 fn chooses_in_the_context(rt: HostRuntime) -> Result<(), Fail> {
     let alloc = rt.alloc();
     let mut names = Names::new(alloc)?;
+    let table = nothing(alloc)?;
     let test = operand(&mut names, alloc, (b"~&", b"3", b"'b101"))?;
     let value = literal(&mut names, alloc, b"3", b"'sb101")?;
     let choice = choice(&mut names, alloc, test, value)?;
     let last = literal(&mut names, alloc, b"8", b"'h0")?;
     let chosen = choose(alloc, choice, last)?;
-    gives(&rt, &names, &chosen, 8, false, Bits::new(8, 5));
+    gives(
+        &rt,
+        &view(&names, &table),
+        &chosen,
+        8,
+        false,
+        Bits::new(8, 5),
+    );
+    Ok(())
+}
+
+// The target `{v, v, ..}` of so many parts, whose brace stands at column 1.
+fn targets(names: &mut Names, alloc: Global, count: u32) -> Result<Lvalue, Fail> {
+    let name = token(names, alloc, TokenKind::Name, b"v", 2)?;
+    let open = token(names, alloc, TokenKind::Mark, b"{", 1)?;
+    let mut more = Items::new(alloc);
+    for _ in 1..count {
+        let target = Lvalue::Name {
+            name,
+            selects: Items::new(alloc),
+        };
+        more.push(LvalueStep {
+            comma: open,
+            target,
+        })?;
+    }
+    let first = Lvalue::Name {
+        name,
+        selects: Items::new(alloc),
+    };
+    Ok(Lvalue::Concat {
+        open,
+        first: Boxed::new(alloc, first)?,
+        more,
+        close: open,
+    })
+}
+
+#[test]
+fn adds_the_parts_of_a_target(rt: HostRuntime) -> Result<(), Fail> {
+    let alloc = rt.alloc();
+    let mut names = Names::new(alloc)?;
+    let four = targets(&mut names, alloc, 4)?;
+    let five = targets(&mut names, alloc, 5)?;
+    let kind = ValueType {
+        width: 16,
+        signed: true,
+    };
+    let mut table = ScopeTable::new(alloc, 1, Denoted::Nothing)?;
+    table.declare(NameId(0), Denoted::Variable(Declared { kind, item: 0 }))?;
+    let scope = view(&names, &table);
+    let sum = ValueType {
+        width: 64,
+        signed: false,
+    };
+    assert!(rt; lvalue_type(&scope, &four) == Ok(sum));
+    assert!(rt; lvalue_type(&scope, &five) == Err(WalkFault::TooWide(at(1))));
     Ok(())
 }

@@ -4,13 +4,13 @@
 //! A walk over types goes into every part, so that it finds each fault. A walk over values is given a context, and
 //! asks for the type of an operand only where that stands alone.
 
-ghost use Rattle.std.specs.Prelude.{◌≡◌, ◌≤◌, ◌+◌, fold, IfSome};
+ghost use Rattle.std.specs.Prelude.{◌≡◌, ◌≤◌, ◌+◌, fold, map, IfSome};
 ghost use Rattle.vs_base.specs.Number.{reading};
 ghost use Rattle.sv_tree.specs.Spelling.{symbol_of};
 ghost use Rattle.sv_sem.specs.Types.{in_context as number_in_context};
 ghost use Rattle.sv_expr.specs.Bound.{IsWidth};
 ghost use Rattle.sv_expr.specs.Environment.{environment};
-ghost use Rattle.sv_expr.specs.Meaning.{alone as alone_number, own_reading, symbol as symbol_in, meaning_of, select_typed as select_type, args_fault as args_first_fault};
+ghost use Rattle.sv_expr.specs.Meaning.{alone as alone_number, own_reading, symbol as symbol_in, meaning_of, named as named_meaning, select_typed as select_type, args_fault as args_first_fault};
 ghost use Rattle.sv_expr.specs.Walk as walks;
 
 use crate::bound::{BIT, fine, first, nothing};
@@ -29,7 +29,7 @@ use crate::scope::ScopeView;
 use crate::spelled::{function_of, symbol, text_of};
 use crate::typed::Typed;
 use sv_sem::{in_context, wider};
-use sv_tree::{Args, Choice, Expr, Names, Select, Step};
+use sv_tree::{Args, Choice, Expr, Names, Select, Step, Token};
 use vs_base::{Bits, ValueType};
 
 /// The left side of a comparison: its type, and its value in that type or a wider one.
@@ -73,11 +73,7 @@ pub fn typed(scope: &ScopeView<'_>, expr: &Expr) -> Typed
             text_of(scope.names, *digits),
         ),
         Expr::Fill(_) => fine(BIT),
-        Expr::Name { name, selects } => {
-            let whole = whole(scope, name.name);
-            let last = selects_typed(scope, fine(whole.kind), selects.as_slice());
-            by_selects(whole, selects.len(), last)
-        }
+        Expr::Name { name, selects } => named_typed(scope, *name, selects.as_slice()),
         Expr::Paren { inner, .. } => typed(scope, inner.get()),
         Expr::Concat {
             open,
@@ -129,6 +125,17 @@ pub fn typed(scope: &ScopeView<'_>, expr: &Expr) -> Typed
             }
         }
     }
+}
+
+/// The type of a name with selects.
+#[cycle(walk)]
+pub fn named_typed(scope: &ScopeView<'_>, name: Token, selects: &[Select]) -> Typed
+    ensures typed { let env = environment scope.now in result ≡ (named_meaning env name (map (select_type env) selects.now)).typed }
+    ensures width { IsWidth result.kind.width }
+{
+    let whole = whole(scope, name.name);
+    let last = selects_typed(scope, fine(whole.kind), selects);
+    by_selects(whole, selects.len(), last)
 }
 
 /// The first fault of arguments.
@@ -325,7 +332,7 @@ fn alone(scope: &ScopeView<'_>, expr: &Expr) -> Bits
 
 /// The value of an operand taken alone, with its sign and its first fault.
 #[cycle(walk)]
-fn own(scope: &ScopeView<'_>, expr: &Expr) -> Own
+pub fn own(scope: &ScopeView<'_>, expr: &Expr) -> Own
     ensures reading { reading result.signed result.value ≡ own_reading (meaning_of (environment scope.now) expr.now) }
     ensures fault { result.fault ≡ (meaning_of (environment scope.now) expr.now).typed.fault }
     ensures narrow { result.value.width ≤ 64 }

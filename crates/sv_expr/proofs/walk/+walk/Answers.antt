@@ -61,13 +61,17 @@ typed-returns-in-Fill-clause-typed t c =
     let env : Environment = environment c.args.scope.now in
     typed_by env c.in-Fill.is (expr-Fill env _) c.fine.ensures
 
+pub named_typed-returns-clause-typed : goal.named_typed-returns-clause-typed
+named_typed-returns-clause-typed t c =
+    let env : Environment = environment c.args.scope.now in
+    let last = rw c.fine.ensures at c.selects_typed-last.ensures.typed in
+    rw last at c.by_selects.ensures.typed
+    ∙ named_is env (env.constant c.args.name.name.0) (env.variable c.args.name.name.0) (env.memory c.args.name.name.0) c.args.selects.now c.whole-whole.result c.whole-whole.ensures.whole
+
 pub typed-returns-in-Name-clause-typed : goal.typed-returns-in-Name-clause-typed
 typed-returns-in-Name-clause-typed t c =
     let env : Environment = environment c.args.scope.now in
-    let last = rw (c.fine-in-Name.ensures, c.as_slice.ensures) at c.selects_typed-last.ensures.typed in
-    typed_by env c.in-Name.is (expr-Name env _ _)
-    (rw (c.len.ensures, last) at c.by_selects.ensures.typed
-    ∙ named_is env (env.constant c.in-Name.name.name.0) (env.variable c.in-Name.name.name.0) (env.memory c.in-Name.name.name.0) c.in-Name.selects c.whole-whole.result c.whole-whole.ensures.whole)
+    typed_by env c.in-Name.is (expr-Name env _ _) (rw c.as_slice.ensures at c.named_typed.ensures.typed)
 
 pub typed-returns-in-Paren-clause-typed : goal.typed-returns-in-Paren-clause-typed
 typed-returns-in-Paren-clause-typed t c =

@@ -1,0 +1,4 @@
+mod Calls
+mod Examples
+mod Steps
+mod Tables

@@ -1,0 +1,3 @@
+pub mod ScopeLaws
+pub mod Scopes
+pub mod Slots
