@@ -12,12 +12,13 @@ use sv_parse::parse;
 use sv_tree::{Names, SourceTree, Token, tokens_of};
 use vs_world::{MemFile, MemWorld, Op, Planned, Stream};
 
-// A command over files, how many bytes a call moves at most and which call fails, and what must come of it.
+// A command over the files d.sv and e.sv, how many bytes a call moves at most and which call fails, and what must come of it.
 #[derive(Clone, Copy)]
 struct Case<'a> {
     title: &'a str,
     words: &'a [&'a str],
-    files: &'a [(&'a str, &'a str)],
+    design: &'a str,
+    second: &'a str,
     most: usize,
     fails: Option<Planned>,
     status: Status,
@@ -35,9 +36,8 @@ fn file(alloc: Global, name: &str, text: &str) -> Result<MemFile, AllocError> {
 
 fn world(alloc: Global, case: &Case<'_>) -> Result<MemWorld, AllocError> {
     let mut files = Vec::new(alloc);
-    for (name, text) in case.files {
-        files.push(file(alloc, name, text)?)?;
-    }
+    files.push(file(alloc, "d.sv", case.design)?)?;
+    files.push(file(alloc, "e.sv", case.second)?)?;
     let mut fails = Vec::new(alloc);
     if let Some(planned) = case.fails {
         fails.push(planned)?;
@@ -72,17 +72,15 @@ fn try_case<R: Abort>(rt: &R, alloc: Global, case: &Case<'_>) -> Result<(), Allo
 
 const WORDS: [&str; 2] = ["--lint-only", "d.sv"];
 
+const DESIGN: &str = "`define W 4\nmodule top(output [`W-1:0] y); assign y = `W'hd; endmodule\n";
+
 // A design that is refused by a line.
-fn refused<'a>(
-    title: &'a str,
-    files: &'a [(&'a str, &'a str)],
-    words: &'a [&'a str],
-    errors: &'a str,
-) -> Case<'a> {
+fn refused<'a>(title: &'a str, design: &'a str, errors: &'a str) -> Case<'a> {
     Case {
         title,
-        words,
-        files,
+        words: &WORDS,
+        design,
+        second: "",
         most: 100_000,
         fails: None,
         status: Status::Refused,
@@ -92,10 +90,38 @@ fn refused<'a>(
     }
 }
 
-const DESIGN: [(&str, &str); 1] = [(
-    "d.sv",
-    "`define W 4\nmodule top(output [`W-1:0] y); assign y = `W'hd; endmodule\n",
-)];
+// Words that are refused by a line, or are for two files.
+fn ended<'a>(
+    title: &'a str,
+    words: &'a [&'a str],
+    design: &'a str,
+    second: &'a str,
+    errors: &'a str,
+) -> Case<'a> {
+    Case {
+        words,
+        second,
+        ..refused(title, design, errors)
+    }
+}
+
+// A fault of the world.
+fn fault<'a>(
+    title: &'a str,
+    words: &'a [&'a str],
+    fails: Option<Planned>,
+    errors: &'a str,
+) -> Case<'a> {
+    Case {
+        words,
+        most: 1,
+        fails,
+        status: Status::WorldFault,
+        faults: if fails.is_some() { 1 } else { 0 },
+        absent: if fails.is_some() { 0 } else { 1 },
+        ..refused(title, DESIGN, errors)
+    }
+}
 
 // With ample memory none of these ends for want of memory.
 #[test]
@@ -103,70 +129,78 @@ fn files_are_checked_in_the_order_of_refusals(rt: HostRuntime) -> Result<(), Fai
     let cases = [
         Case {
             status: Status::Done,
-            ..refused("a design", &DESIGN, &WORDS, "")
+            ..refused("a design", DESIGN, "")
         },
-        refused("no words", &DESIGN, &[], "vsim: usage\n"),
-        refused("no file", &DESIGN, &["--lint-only"], "vsim: usage\n"),
-        refused(
+        ended("no words", &[], DESIGN, "", "vsim: usage\n"),
+        ended("no file", &["--lint-only"], DESIGN, "", "vsim: usage\n"),
+        ended(
             "the word twice",
-            &DESIGN,
             &["--lint-only", "d.sv", "--lint-only"],
+            DESIGN,
+            "",
             "vsim: usage\n",
         ),
         refused(
             "a byte that begins no token",
-            &[("d.sv", "module top;\n  wire \\a ; endmodule\n")],
-            &WORDS,
+            "module top;\n  wire \\a ; endmodule\n",
             "vsim: d.sv:2:8: bad character\n",
         ),
-        refused(
+        ended(
             "the second file has the fault",
-            &[("d.sv", "module top; endmodule\n"), ("e.sv", "`else\n")],
             &["d.sv", "--lint-only", "e.sv"],
+            "module top; endmodule\n",
+            "`else\n",
             "vsim: e.sv:1:1: stray else\n",
         ),
-        refused(
+        ended(
             "lexing of all files comes before preprocessing",
-            &[("d.sv", "`nope\n"), ("e.sv", "\"open\n")],
             &["--lint-only", "d.sv", "e.sv"],
+            "`nope\n",
+            "\"open\n",
             "vsim: e.sv:1:1: open string\n",
         ),
         refused(
             "a macro that is not defined",
-            &[("d.sv", "module top; `nope endmodule\n")],
-            &WORDS,
+            "module top; `nope endmodule\n",
             "vsim: d.sv:1:13: unknown macro nope\n",
         ),
         refused(
             "a number without digits",
-            &[("d.sv", "module top; wire a = 8'sd; endmodule\n")],
-            &WORDS,
+            "module top; wire a = 8'sd; endmodule\n",
             "vsim: d.sv:1:23: bad number\n",
         ),
-        Case {
-            status: Status::WorldFault,
-            absent: 1,
-            ..refused("no such file", &[], &WORDS, "vsim: cannot read d.sv\n")
-        },
-        Case {
-            status: Status::WorldFault,
-            faults: 1,
-            fails: Some(Planned {
-                op: Op::Read,
-                nth: 1,
-            }),
-            ..refused("a read fails", &DESIGN, &WORDS, "vsim: cannot read d.sv\n")
-        },
-        Case {
-            status: Status::WorldFault,
-            faults: 1,
-            most: 1,
-            fails: Some(Planned {
-                op: Op::Write(Stream::Errors),
-                nth: 9,
-            }),
-            ..refused("a refusal is cut short", &DESIGN, &[], "vsim: us")
-        },
+    ];
+    for case in &cases {
+        try_case(&rt, rt.alloc(), case)?;
+    }
+    Ok(())
+}
+
+// With ample memory none of these ends for want of memory either.
+#[test]
+fn faults_of_the_world_are_told(rt: HostRuntime) -> Result<(), Fail> {
+    let first_read = Planned {
+        op: Op::Read,
+        nth: 1,
+    };
+    let ninth_write = Planned {
+        op: Op::Write(Stream::Errors),
+        nth: 9,
+    };
+    let cases = [
+        fault(
+            "no such file",
+            &["--lint-only", "f.sv"],
+            None,
+            "vsim: cannot read f.sv\n",
+        ),
+        fault(
+            "a read fails",
+            &WORDS,
+            Some(first_read),
+            "vsim: cannot read d.sv\n",
+        ),
+        fault("a refusal is cut short", &[], Some(ninth_write), "vsim: us"),
     ];
     for case in &cases {
         try_case(&rt, rt.alloc(), case)?;
