@@ -322,7 +322,7 @@ fn finds_the_first_fault(rt: HostRuntime) -> Result<(), Fail> {
     let alloc = rt.alloc();
     let mut names = Names::new(alloc)?;
     let table = nothing(alloc)?;
-    let table = [
+    let cases = [
         (b"0".as_slice(), b"3".as_slice(), WalkFault::BadRange(at(1))),
         (
             b"0".as_slice(),
@@ -331,7 +331,7 @@ fn finds_the_first_fault(rt: HostRuntime) -> Result<(), Fail> {
         ),
         (b"22".as_slice(), b"3".as_slice(), WalkFault::TooWide(at(1))),
     ];
-    for (count, size, fault) in table {
+    for (count, size, fault) in cases {
         let part = (NONE, size, b"'b1".as_slice());
         let expr = replication(&mut names, alloc, (NONE, count, NONE), part)?;
         fails(&rt, &view(&names, &table), &expr, fault);
