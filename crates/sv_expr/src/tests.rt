@@ -412,28 +412,17 @@ fn groups_from_the_left(rt: HostRuntime) -> Result<(), Fail> {
     let alloc = rt.alloc();
     let mut names = Names::new(alloc)?;
     let table = nothing(alloc)?;
-    let difference = three(&mut names, alloc, b"-", [b"9", b"4", b"3"])?;
-    gives(
-        &rt,
-        &view(&names, &table),
-        &difference,
-        32,
-        true,
-        Bits::new(32, 2),
-    );
-    let greater = three(&mut names, alloc, b">", [b"3", b"2", b"1"])?;
-    gives(
-        &rt,
-        &view(&names, &table),
-        &greater,
-        1,
-        false,
-        Bits::new(1, 0),
-    );
-    let all = three(&mut names, alloc, b"&&", [b"3", b"2", b"0"])?;
-    gives(&rt, &view(&names, &table), &all, 1, false, Bits::new(1, 0));
-    let some = three(&mut names, alloc, b"||", [b"0", b"2", b"0"])?;
-    gives(&rt, &view(&names, &table), &some, 1, false, Bits::new(1, 1));
+    let cases = [
+        (b"-".as_slice(), [b"9".as_slice(), b"4", b"3"], 32, true, 2),
+        (b">".as_slice(), [b"3".as_slice(), b"2", b"1"], 1, false, 0),
+        (b"&&".as_slice(), [b"3".as_slice(), b"2", b"0"], 1, false, 0),
+        (b"||".as_slice(), [b"0".as_slice(), b"2", b"0"], 1, false, 1),
+    ];
+    for (mark, digits, width, signed, value) in cases {
+        let expr = three(&mut names, alloc, mark, digits)?;
+        let value = Bits::new(width, value);
+        gives(&rt, &view(&names, &table), &expr, width, signed, value);
+    }
     Ok(())
 }
 
