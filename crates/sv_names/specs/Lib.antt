@@ -1,0 +1,6 @@
+pub mod Candidates
+pub mod Cause
+pub mod Defaults
+pub mod Noted
+pub mod NotedLaws
+pub mod Tops
