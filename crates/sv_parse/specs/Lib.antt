@@ -1,3 +1,2 @@
 pub mod Faults
-pub mod Lists
 pub mod Parts

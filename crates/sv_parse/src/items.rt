@@ -10,11 +10,8 @@ ghost use Rattle.parse_stmt.specs.Body.{ParsedBody, ParsedInside};
 
 use crate::chain::{if_else_item, if_item};
 use crate::class::nests;
-use crate::declarations::{assigns, genvars, parameters, variables};
-use crate::imports::import;
-use crate::instances::instance;
-use crate::processes::process;
 use parse_expr::{ParseFault, Source, boxed, inside, push};
+use parse_item::plain_item;
 use parse_stmt::{item_loop, named_word, test};
 use sqlite_items::Items;
 use sv_tree::{GenBlock, Item, ItemBranch, Symbol};
@@ -142,45 +139,4 @@ fn gen_block(source: &Source<'_>, at: &mut usize, depth: u32) -> Result<GenBlock
         end: end.word,
         end_label: end.label,
     })
-}
-
-/// An item in which no item stands.
-fn plain_item(source: &Source<'_>, at: &mut usize, depth: u32) -> Result<Item, ParseFault>
-    requires deep { depth ≤ 128 }
-    requires within { at.old ≤ length source.now.tokens }
-    ensures reads { IfOk result (λ x. ParsedBody source.now depth at.old at.new (item_read x)) }
-    ensures fault { IfErr result (λ f. IsWithin source.now f) }
-{
-    match source.peek(*at) {
-        Symbol::Semicolon => empty(source, at, depth),
-        Symbol::Import => import_item(source, at, depth),
-        Symbol::Parameter | Symbol::Localparam => parameters(source, at, depth),
-        Symbol::AssignWord => assigns(source, at, depth),
-        Symbol::Genvar => genvars(source, at, depth),
-        Symbol::Name => instance(source, at, depth),
-        Symbol::AlwaysComb | Symbol::AlwaysFf | Symbol::Always => process(source, at, depth),
-        _ => variables(source, at, depth),
-    }
-}
-
-/// `";"`
-fn empty(source: &Source<'_>, at: &mut usize, depth: u32) -> Result<Item, ParseFault>
-    requires deep { depth ≤ 128 }
-    requires within { at.old ≤ length source.now.tokens }
-    ensures reads { IfOk result (λ x. ParsedBody source.now depth at.old at.new (item_read x)) }
-    ensures fault { IfErr result (λ f. IsWithin source.now f) }
-{
-    let semicolon = source.expect(at, Symbol::Semicolon)?;
-    Ok(Item::Empty(semicolon))
-}
-
-/// An import among items.
-fn import_item(source: &Source<'_>, at: &mut usize, depth: u32) -> Result<Item, ParseFault>
-    requires deep { depth ≤ 128 }
-    requires within { at.old ≤ length source.now.tokens }
-    ensures reads { IfOk result (λ x. ParsedBody source.now depth at.old at.new (item_read x)) }
-    ensures fault { IfErr result (λ f. IsWithin source.now f) }
-{
-    let import = import(source, at, depth)?;
-    Ok(Item::Import(import))
 }

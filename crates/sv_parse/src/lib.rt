@@ -14,13 +14,9 @@
 //!
 //! First all tokens are looked at for one that is *outside of the subset* of the language: the
 //! first one is told, whatever stands before it. Then the descent reads descriptions, modules and
-//! items; `parse_stmt` reads the statements of processes and `parse_expr` the expressions. One
-//! token of look-ahead decides everywhere, after common beginnings were read together:
-//!
-//! - an item that begins with a name is an instance;
-//! - after `always @` comes `*` or `(`, and after that `*` or an edge;
-//! - the first connection of a list tells whether all are by name or in order;
-//! - a name after an import's text is its linkage name.
+//! generate items; `parse_item` reads the items in which no item stands, `parse_stmt` the statements
+//! of processes and `parse_expr` the expressions. One token of look-ahead decides everywhere, after
+//! common beginnings were read together.
 //!
 //! So the token at which no production goes on is the first with which no tree goes on, and
 //! `Syntax` has its number, or the count of the tokens where more would be needed. `TooDeep` has
@@ -39,9 +35,8 @@
 //! least such number is not proved; `tests/sentences` of the repository has sentences of
 //! each production that break at a known place.
 //!
-//! `proofs/Rules.antt` has a rule for each form of an item, from its parts to the whole, and the
-//! proof of each function applies one. A list with commas is read by one function for all kinds
-//! of parts (`Part`).
+//! `proofs/Rules.antt` has a rule for each form of an item in which items stand, from its parts to
+//! the whole, and the proof of each function applies one.
 //!
 //! # Cost
 //!
@@ -51,13 +46,8 @@
 
 mod chain;
 mod class;
-mod declarations;
-mod imports;
-mod instances;
 mod items;
-mod lists;
 mod modules;
-mod processes;
 mod sources;
 
 pub use parse_expr::ParseFault;

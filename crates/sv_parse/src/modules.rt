@@ -9,8 +9,8 @@ ghost use Rattle.sv_parse.specs.Parts as parts;
 
 use crate::class::is_direction;
 use crate::items::items;
-use crate::lists::{Part, comma_list, comma_more, take_where};
 use parse_expr::{ParseFault, Source, data_type_if, enter, setting, syntax};
+use parse_item::{Part, comma_list, comma_more, take_where};
 use parse_stmt::{NamedWord, named_word};
 use sqlite_items::Items;
 use sv_tree::{CommaList, Item, Module, Parameter, ParameterList, Port, PortList, Symbol, Token};

@@ -7,9 +7,9 @@ ghost use Rattle.sv_tree.specs.TreeRead.{each};
 ghost use Rattle.parse_expr.specs.Parsed.{Parsed, IsWithin};
 ghost use Rattle.sv_parse.specs.Faults.{NoneOutside, FaultIs};
 
-use crate::imports::import;
 use crate::modules::module;
 use parse_expr::{ParseFault, Source, outside, push, syntax};
+use parse_item::import;
 use sqlite_items::Items;
 use std::alloc::Global;
 use sv_tree::{Description, Names, SourceTree, Symbol, Token};

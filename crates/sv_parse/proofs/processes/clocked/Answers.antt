@@ -1,5 +1,0 @@
-use Rattle.sv_parse.proofs.Rules as rules
-use Rattle.sv_parse.proofs.processes.clocked.Goals as goal
-
-pub returns-clause-reads : goal.returns-clause-reads
-returns-clause-reads c = λ start before. rules.clocked_head c.in_ok-events.events c.requires.deep before c.in_ok-events.ensures.reads c.in_ok-close.ensures.token
