@@ -5,6 +5,13 @@ ghost use Rattle.sv_tree.specs.Symbol as spec;
 
 use sv_tree::Symbol;
 
+/// Whether it is the direction of a port.
+pub fn is_direction(symbol: Symbol) -> bool
+    ensures { result ≡ spec.is_direction symbol }
+{
+    matches!(symbol, Symbol::Input | Symbol::Output)
+}
+
 /// Whether it says how an import is called.
 pub fn is_manner(symbol: Symbol) -> bool
     ensures { result ≡ spec.is_manner symbol }

@@ -1,8 +1,8 @@
-//! Reads tokens as the items of a module in which no item stands, by recursive descent (IEEE
-//! 1800-2017 A.1.4, A.2, A.4.1.1, A.6.1, A.6.2).
+//! Reads tokens as the parameter list and the ports of a module and as the items in which no item
+//! stands, by recursive descent (IEEE 1800-2017 A.1.3, A.1.4, A.2, A.4.1.1, A.6.1, A.6.2).
 //!
 //! In come a [`Source`](parse_expr::Source) of tokens, a place in it and a depth; out comes the
-//! item that begins there, with the place moved to its end, or the fault. `parse_expr` says what
+//! item or list that begins there, with the place moved to its end, or the fault. `parse_expr` says what
 //! places, depths and faults are, and reads the expressions, types and targets; `parse_stmt` reads
 //! the statements of processes.
 //!
@@ -21,13 +21,13 @@
 //! - the first connection of a list tells whether all are by name or in order;
 //! - a name after an import's text is its linkage name.
 //!
-//! A list with commas is read by one function for all kinds of parts ([`Part`]). Of what stands in
+//! A list with commas is read by one function for all kinds of parts (`Part`). Of what stands in
 //! an item only an import's argument list adds to the depth, besides statements and expressions.
 //!
 //! # What is proved
 //!
-//! Of the tokens between two places `ParsedBody` (of `parse_stmt`) says that they read as the item:
-//! they are its tokens in order, each is what its place asks, and each is at most 128 deep. A fault
+//! Of the tokens between two places `ParsedBody` (of `parse_stmt`) and `Parsed` (of `parse_expr`) say
+//! that they read as the item or the list: they are its tokens in order, each is what its place asks, and each is at most 128 deep. A fault
 //! names a token or the end. `proofs/Rules.antt` has a rule for each form of an item, from its parts
 //! to the whole, and the proof of each function applies one.
 //!
@@ -39,12 +39,13 @@
 
 mod class;
 mod declarations;
+mod headers;
 mod imports;
 mod instances;
 mod lists;
 mod plain;
 mod processes;
 
+pub use headers::{parameter_list, port_list};
 pub use imports::import;
-pub use lists::{Part, comma_list, comma_more, take_where};
 pub use plain::plain_item;

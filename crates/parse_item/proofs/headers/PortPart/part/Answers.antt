@@ -1,7 +1,7 @@
 use Rattle.std.proofs.Common.{◌∙◌, ap}
 use Rattle.std.proofs.lemmas.Result.{IfOk-weaker}
 use Rattle.sv_tree.specs.Symbol.{is_direction}
-use Rattle.sv_parse.proofs.modules.PortPart.part.Goals as goal
+use Rattle.parse_item.proofs.headers.PortPart.part.Goals as goal
 
 pub port-requires-clause-within : goal.port-requires-clause-within
 port-requires-clause-within c =

@@ -4,7 +4,7 @@ use Rattle.sv_tree.specs.Symbol.{is_direction}
 use Rattle.sv_tree.specs.Tree as tree
 use Rattle.sv_tree.specs.TreeRead.{one_of}
 use Rattle.parse_expr.specs.ParsedLaws.{one_at, ◌and◌, asking, present}
-use Rattle.sv_parse.proofs.modules.ports.Goals as goal
+use Rattle.parse_item.proofs.headers.ports.Goals as goal
 
 pub returns-clause-reads : goal.returns-clause-reads
 returns-clause-reads c =

@@ -1,7 +1,7 @@
 use Rattle.sv_tree.specs.declared.symbol.Symbol.TheVariants as symbol
 use Rattle.parse_expr.specs.ParsedLaws.{◌and◌}
 use Rattle.parse_stmt.specs.BodyLaws.{option_at}
-use Rattle.sv_parse.proofs.modules.ParameterPart.part.Goals as goal
+use Rattle.parse_item.proofs.headers.ParameterPart.part.Goals as goal
 
 pub returns-clause-reads : goal.returns-clause-reads
 returns-clause-reads c =
