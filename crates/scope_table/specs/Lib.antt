@@ -1,3 +1,4 @@
+pub mod MeaningLaws
 pub mod ScopeLaws
 pub mod Scopes
 pub mod Slots

@@ -30,8 +30,8 @@
 //! Contracts see a table of scopes as a stack of whole tables, each with what every name means in
 //! one scope and whether that scope declares it (`specs/Scopes.antt`). Each call is one definition
 //! on this stack: entering copies the top, declaring writes one entry of it, leaving takes it away.
-//! Where memory is wanted the stack is as it was. `specs/ScopeLaws.antt` says what follows for
-//! calls in pairs.
+//! Where memory is wanted the stack is as it was. `specs/MeaningLaws.antt` says what follows for one
+//! name at each step, and `specs/ScopeLaws.antt` for scopes that are entered and left in pairs.
 //!
 //! # How it is held
 //!
