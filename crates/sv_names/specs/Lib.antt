@@ -1,6 +1,5 @@
 pub mod Candidates
 pub mod Cause
-pub mod Defaults
 pub mod Noted
 pub mod NotedLaws
 pub mod Tops

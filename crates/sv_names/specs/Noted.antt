@@ -1,5 +1,5 @@
--- What a walk over the items of all modules notes: which modules are instantiated, and the first import that is none of
--- this subset.
+-- What a walk over the items of all modules notes: which modules are instantiated, the first import that is none of this
+-- subset, and the first `case` with a second `default`.
 use Rattle.std.specs.Prelude.{◌≡◌, ℕ, Bool, not, ◌&&◌, List, [], ◌∷◌, ◌++◌, map, get_or, slice_get, codes, if◌then◌else◌, Option, None, Some}
 use Rattle.std.specs.Option.{option_map}
 use Rattle.std.specs.Str.{bytes_eq}
@@ -16,6 +16,8 @@ use Rattle.sv_tree.specs.declared.tree.list.CommaList.{CommaList}
 use Rattle.sv_tree.specs.declared.tree.source.Description.{Description}
 use Rattle.sv_tree.specs.declared.tree.source.Description.TheVariants as description
 use Rattle.sv_tree.specs.declared.tree.source.SourceTree.{SourceTree}
+use Rattle.sv_tree.specs.declared.tree.stmt.Stmt.{Stmt}
+use Rattle.case_defaults.specs.Defaults.{stmt_notes}
 
 -- the texts of the table of names
 abbrev pub Texts : Type 0
@@ -67,9 +69,11 @@ pub record Noted : Type 0 where
   pub used : List ℕ
   -- the place of the first bad import
   pub bad : Option Origin
+  -- the first word `default` that is a second one of its `case`
+  pub twice : Option Token
 
 abbrev pub nothing_noted : Noted
-nothing_noted = record { used = []; bad = None }
+nothing_noted = record { used = []; bad = None; twice = None }
 
 -- what a part adds to what was noted before it
 abbrev pub Notes : Type 0
@@ -81,6 +85,9 @@ note_instance name n = record n { used = n.used ++ name ∷ [] }
 abbrev pub note_import : Texts → Import → Notes
 note_import names x n = record n { bad = either n.bad (bad_import names x) }
 
+abbrev pub note_body : Stmt → Notes
+note_body body n = record n { twice = stmt_notes body n.twice }
+
 -- one part after another
 abbrev pub in_order : List Notes → Notes
 in_order [] n = n
@@ -89,6 +96,10 @@ in_order (part ∷ more) n = in_order more (part n)
 module _ (names : Texts) where
   abbrev pub note_item : Item-F Notes Notes Notes → Notes
   note_item (Item-F.Import x) = note_import names x
+  note_item (Item-F.Comb word body) = note_body body
+  note_item (Item-F.Star word at star body) = note_body body
+  note_item (Item-F.ParenStar word at opens star closes body) = note_body body
+  note_item (Item-F.Clocked word at opens events closes body) = note_body body
   note_item (Item-F.Generate word parts end) = in_order parts
   note_item (Item-F.For head body) = body
   note_item (Item-F.If branches test body) = λ n. body (in_order branches n)

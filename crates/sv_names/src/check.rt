@@ -33,24 +33,29 @@ pub fn check_names(
     ensures top { IfOk result (λ at. candidates (noted names.now tree.now).used tree.now.descriptions top ≡ at ∷ []) }
     ensures fault { IfErr result (TopAllows (candidates (noted names.now tree.now).used tree.now.descriptions top)) }
     ensures imports { OnOk result ((noted names.now tree.now).bad ≡ None) }
+    ensures single { OnOk result ((noted names.now tree.now).twice ≡ None) }
     ensures bad_import { IfErr result (ImportAllows (noted names.now tree.now).bad) }
 {
-    let Ok((uses, bad)) = survey_source(alloc, names, tree).into_parts() else {
+    let Ok(met) = survey_source(alloc, names, tree).into_noted() else {
         return Err(DesignFault::NoMemory);
     };
     let Ok(modules) = Modules::new(alloc, tree) else {
         return Err(DesignFault::NoMemory);
     };
-    let at = match tops_of(alloc, tree, &modules, uses.as_slice(), top) {
+    let at = match tops_of(alloc, tree, &modules, met.uses.as_slice(), top) {
         Ok(Tops::One(at)) => at,
         Ok(Tops::Nothing) => return Err(DesignFault::NoTop),
         Ok(Tops::Many) => return Err(DesignFault::ManyTops),
         Err(_) => return Err(DesignFault::NoMemory),
     };
-    if let Some(fault) = first_fault(alloc, tree, names, &modules, uses.as_slice()) {
+    if let Some(fault) = first_fault(alloc, tree, names, &modules, met.uses.as_slice()) {
         return Err(fault);
     }
-    match bad {
+    // The walk has met a second `default` at its place in the order; here it is seen that none is left.
+    if let Some(word) = met.twice {
+        return Err(DesignFault::Duplicate(word.at, word.name));
+    }
+    match met.bad {
         Some(place) => Err(DesignFault::BadImport(place)),
         None => Ok(at),
     }

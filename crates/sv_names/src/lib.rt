@@ -31,8 +31,8 @@
 //! Every call is safe and ends. [`check_names`] answers `NoTop` and `ManyTops` exactly where the definitions of
 //! `specs/Candidates.antt` have no module or several that may be the top, and else the one that may. It answers
 //! `BadImport` only at the first bad import of the source, and a number only where there is none (`specs/Noted.antt`).
-//! No fault comes that only the layout of a design can have (`specs/Cause.antt`). That the other faults come exactly where
-//! the text has them is not proved: examples show it.
+//! A number comes only where no `case` has a second `default`. No fault comes that only the layout of a design can have
+//! (`specs/Cause.antt`). That the other faults come exactly where the text has them is not proved: examples show it.
 //!
 //! # Cost
 //!

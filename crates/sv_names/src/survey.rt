@@ -1,15 +1,18 @@
-//! What is noted of all modules before their names are looked at: which modules are instantiated, and the first import
-//! that is none of this subset (IEEE 1800-2017 35.5.2, 35.5.4). One walk over the items.
+//! What is noted of all modules before their names are looked at: which modules are instantiated, the first import
+//! that is none of this subset (IEEE 1800-2017 35.5.2, 35.5.4), and the first second `default` of a `case` (12.5). One walk
+//! over the items.
 
 ghost use Rattle.std.specs.Prelude.{◌≡◌, map, IfOk, MatchResult, Some, None, get_or, []};
 ghost use Rattle.sv_names.specs.Noted as spec;
 ghost use Rattle.sv_names.specs.Noted.{Adds};
 
 use crate::imports::bad_import;
+use case_defaults::find_second_default;
 use std::alloc::Global;
 use std::marker::Model;
 use sv_tree::{
-    Description, GenBlock, Import, Item, ItemBranch, NameId, Names, NoMemory, SourceTree,
+    Description, GenBlock, Import, Item, ItemBranch, NameId, Names, NoMemory, SourceTree, Stmt,
+    Token,
 };
 use vs_base::Origin;
 
@@ -22,12 +25,24 @@ pub struct Use {
     pub child: NameId,
 }
 
+/// What is noted of a source.
+#[derive(Drop)]
+pub struct Noted {
+    /// The instances in token order.
+    pub uses: Vec<Use>,
+    /// The place of the first bad import.
+    pub bad: Option<Origin>,
+    /// The first word `default` that is a second one of its `case`.
+    pub twice: Option<Token>,
+}
+
 /// What was noted so far, or nothing from where memory ran out on: a walk then goes on to its end, and needs no test
 /// after each item.
 #[derive(Drop)]
 pub struct Survey {
     uses: Vec<Use>,
     bad: Option<Origin>,
+    twice: Option<Token>,
     failed: bool,
 }
 
@@ -37,7 +52,7 @@ impl Model for Survey {
 
     ghost Value = { Option Noted };
 
-    ghost view = { λ s. if s.failed then None else Some (record { used = map (λ u. u.child.0) s.uses.items; bad = s.bad }) };
+    ghost view = { λ s. if s.failed then None else Some (record { used = map (λ u. u.child.0) s.uses.items; bad = s.bad; twice = s.twice }) };
 }
 
 impl Survey {
@@ -48,6 +63,7 @@ impl Survey {
         Survey {
             uses: Vec::new(alloc),
             bad: None,
+            twice: None,
             failed: false,
         }
     }
@@ -76,15 +92,27 @@ impl Survey {
         }
     }
 
-    /// The instances in token order, and the place of the first bad import.
-    pub fn into_parts(self) -> Result<(Vec<Use>, Option<Origin>), NoMemory>
-        ensures { MatchResult result (λ p. self ≡ Some (record { used = map (λ u. u.child.0) p.0.items; bad = p.1 })) (λ fault. self ≡ None) }
+    /// Notes the body of a process.
+    fn body(&mut self, body: &Stmt)
+        ensures { Adds self.old (spec.note_body body.now) self.new }
     {
-        let Survey { uses, bad, failed } = self;
+        find_second_default(&mut self.twice, body);
+    }
+
+    /// What was noted, or that memory ran out.
+    pub fn into_noted(self) -> Result<Noted, NoMemory>
+        ensures { MatchResult result (λ n. self ≡ Some (record { used = map (λ u. u.child.0) n.uses.items; bad = n.bad; twice = n.twice })) (λ fault. self ≡ None) }
+    {
+        let Survey {
+            uses,
+            bad,
+            twice,
+            failed,
+        } = self;
         if failed {
             return Err(NoMemory);
         }
-        Ok((uses, bad))
+        Ok(Noted { uses, bad, twice })
     }
 }
 
@@ -138,10 +166,10 @@ fn survey_item(met: &mut Survey, names: &Names, inside: usize, item: &Item)
         Item::Parameters { .. } => {}
         Item::Variables { .. } => {}
         Item::Assigns { .. } => {}
-        Item::Comb { .. } => {}
-        Item::Star { .. } => {}
-        Item::ParenStar { .. } => {}
-        Item::Clocked { .. } => {}
+        Item::Comb { body, .. } => met.body(body),
+        Item::Star { body, .. } => met.body(body),
+        Item::ParenStar { body, .. } => met.body(body),
+        Item::Clocked { body, .. } => met.body(body),
         Item::Genvars { .. } => {}
     }
 }

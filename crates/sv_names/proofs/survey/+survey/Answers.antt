@@ -50,16 +50,16 @@ pub survey_item-returns-in-Assigns : goal.survey_item-returns-in-Assigns
 survey_item-returns-in-Assigns t c = by_item c.args.names.now c.in-Assigns.is (law.item-Assigns c.args.names.now _ _ _) (adds_nothing _)
 
 pub survey_item-returns-in-Comb : goal.survey_item-returns-in-Comb
-survey_item-returns-in-Comb t c = by_item c.args.names.now c.in-Comb.is (law.item-Comb c.args.names.now _ _) (adds_nothing _)
+survey_item-returns-in-Comb t c = by_item c.args.names.now c.in-Comb.is (law.item-Comb c.args.names.now _ _) c.body.ensures
 
 pub survey_item-returns-in-Star : goal.survey_item-returns-in-Star
-survey_item-returns-in-Star t c = by_item c.args.names.now c.in-Star.is (law.item-Star c.args.names.now _ _ _ _) (adds_nothing _)
+survey_item-returns-in-Star t c = by_item c.args.names.now c.in-Star.is (law.item-Star c.args.names.now _ _ _ _) c.body-in-Star.ensures
 
 pub survey_item-returns-in-ParenStar : goal.survey_item-returns-in-ParenStar
-survey_item-returns-in-ParenStar t c = by_item c.args.names.now c.in-ParenStar.is (law.item-ParenStar c.args.names.now _ _ _ _ _ _) (adds_nothing _)
+survey_item-returns-in-ParenStar t c = by_item c.args.names.now c.in-ParenStar.is (law.item-ParenStar c.args.names.now _ _ _ _ _ _) c.body-in-ParenStar.ensures
 
 pub survey_item-returns-in-Clocked : goal.survey_item-returns-in-Clocked
-survey_item-returns-in-Clocked t c = by_item c.args.names.now c.in-Clocked.is (law.item-Clocked c.args.names.now _ _ _ _ _ _) (adds_nothing _)
+survey_item-returns-in-Clocked t c = by_item c.args.names.now c.in-Clocked.is (law.item-Clocked c.args.names.now _ _ _ _ _ _) c.body-in-Clocked.ensures
 
 pub survey_item-returns-in-Genvars : goal.survey_item-returns-in-Genvars
 survey_item-returns-in-Genvars t c = by_item c.args.names.now c.in-Genvars.is (law.item-Genvars c.args.names.now _ _ _) (adds_nothing _)
