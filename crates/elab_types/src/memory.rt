@@ -1,0 +1,108 @@
+//! The addresses of memories.
+
+ghost use Rattle.std.specs.Prelude.{◌≡◌, ◌≤◌, ◌≤ℤ◌, ◌<ℤ◌, ◌^◌, pos, neg_ℤ, ◌-ℤ◌, IfOk};
+ghost use Rattle.sv_expr.specs.Bound.{fault_in, whole_part};
+ghost use Rattle.sv_expr.specs.Environment.{environment};
+ghost use Rattle.elab_types.specs.Memory as memory;
+
+use crate::kinds::Bounds;
+use sv_expr::{ScopeView, WalkFault, own_value};
+use sv_tree::{Dimension, Range};
+use vs_base::Origin;
+
+/// The greatest number of elements that a memory may have.
+const ELEMENTS: i128 = 65_536;
+
+/// The addresses of a memory (IEEE 1800-2017 7.4.2): `[a:b]` has those from the lesser end to the greater, `[n]` those
+/// from 0 to n - 1.
+///
+/// The fault is the first one of the expressions in the bracket, then `BadRange` at its `[`: an address below -2^63 or over
+/// 2^63 - 1, no element, or more than 65,536. Ends and counts are read with their own signs.
+pub fn bounds(scope: &ScopeView<'_>, dimension: &Dimension) -> Result<Bounds, WalkFault>
+    ensures bounds { IfOk result (λ found. memory.addresses found ≡ memory.bounds_of (environment scope.now) dimension.now) }
+    ensures fault { fault_in result ≡ memory.fault_of (environment scope.now) dimension.now }
+{
+    match dimension {
+        Dimension::Count { open, count, .. } => match own_value(scope, count) {
+            Ok(count) => counted(open.at, count),
+            Err(fault) => Err(fault),
+        },
+        Dimension::Bounds(range) => between(scope, range),
+    }
+}
+
+/// The addresses from 0, so many.
+fn counted(at: Origin, count: i128) -> Result<Bounds, WalkFault>
+    requires low { neg_ℤ (pos (2 ^ 64)) ≤ℤ count }
+    requires high { count <ℤ pos (2 ^ 64) }
+    ensures bounds { IfOk result (λ found. memory.addresses found ≡ memory.ascending (pos 0) (count -ℤ pos 1)) }
+    ensures fault { fault_in result ≡ memory.ends_fault at (pos 0) (count -ℤ pos 1) }
+{
+    ascending(at, 0, count - 1)
+}
+
+/// The addresses from the lesser end of a range to the greater.
+fn between(scope: &ScopeView<'_>, range: &Range) -> Result<Bounds, WalkFault>
+    ensures bounds { IfOk result (λ found. memory.addresses found ≡ memory.ranged (environment scope.now) range.now) }
+    ensures fault { fault_in result ≡ memory.range_fault (environment scope.now) range.now }
+{
+    let left = match own_value(scope, &range.left) {
+        Ok(left) => left,
+        Err(fault) => return Err(fault),
+    };
+    let right = match own_value(scope, &range.right) {
+        Ok(right) => right,
+        Err(fault) => return Err(fault),
+    };
+    if left < right {
+        return ascending(range.open.at, left, right);
+    }
+    ascending(range.open.at, right, left)
+}
+
+/// The addresses from one to another that is none below it but for no element at all.
+fn ascending(at: Origin, low: i128, high: i128) -> Result<Bounds, WalkFault>
+    requires low_low { neg_ℤ (pos (2 ^ 65)) ≤ℤ low }
+    requires low_high { low <ℤ pos (2 ^ 65) }
+    requires high_low { neg_ℤ (pos (2 ^ 65)) ≤ℤ high }
+    requires high_high { high <ℤ pos (2 ^ 65) }
+    ensures bounds { IfOk result (λ found. memory.addresses found ≡ memory.ascending low high) }
+    ensures fault { fault_in result ≡ memory.ends_fault at low high }
+{
+    if low < -(1 << 63) {
+        return Err(WalkFault::BadRange(at));
+    }
+    if high > (1 << 63) - 1 {
+        return Err(WalkFault::BadRange(at));
+    }
+    let count = high - low + 1;
+    if count < 1 {
+        return Err(WalkFault::BadRange(at));
+    }
+    if count > ELEMENTS {
+        return Err(WalkFault::BadRange(at));
+    }
+    let low = address(low);
+    let count = elements(count);
+    Ok(Bounds { low, count })
+}
+
+/// An address of 64 bits with a sign.
+fn address(address: i128) -> i64
+    requires low { neg_ℤ (pos (2 ^ 63)) ≤ℤ address }
+    requires high { address <ℤ pos (2 ^ 63) }
+    ensures { result ≡ address }
+{
+    address as i64
+}
+
+/// How many elements there are.
+fn elements(count: i128) -> u32
+    requires some { pos 1 ≤ℤ count }
+    requires most { count ≤ℤ pos 65536 }
+    ensures value { result ≡ whole_part count }
+    ensures some { 1 ≤ result }
+    ensures most { result ≤ 65536 }
+{
+    count as u32
+}
