@@ -1,0 +1,2 @@
+pub mod Rooteds
+pub mod Tops

@@ -1,0 +1,3 @@
+pub mod Rooted
+pub mod Faults
+pub mod Top
