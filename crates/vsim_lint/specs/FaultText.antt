@@ -8,6 +8,10 @@ use Rattle.sv_pp.specs.declared.fault.PpFault.{PpFault}
 use Rattle.sv_pp.specs.declared.fault.PpFault.TheVariants as preprocessing
 use Rattle.parse_expr.specs.declared.fault.ParseFault.{ParseFault}
 use Rattle.parse_expr.specs.declared.fault.ParseFault.TheVariants as parsing
+use Rattle.sv_names.specs.declared.fault.DesignFault.{DesignFault}
+use Rattle.sv_names.specs.declared.fault.DesignFault.TheVariants as design
+use Rattle.vs_base.specs.declared.limits.Kind.{Kind}
+use Rattle.vs_base.specs.declared.limits.Kind.TheVariants as kind
 use Rattle.run_status.specs.Answer.{placed_text}
 use Rattle.vsim_lint.specs.Words.{Text}
 
@@ -70,3 +74,40 @@ parsing_text files table tokens (parsing.Construct k) = at_token files tokens k 
 parsing_text files table tokens (parsing.Syntax k) = of_token files (slice_get tokens k) (codes "syntax error") (codes "syntax error at end of input")
 parsing_text files table tokens (parsing.TooDeep k) = of_token files (slice_get tokens k) (codes "nested too deep") (codes "nested too deep")
 parsing_text files table tokens parsing.NoMemory = out_of_memory
+
+-- ---- the design
+
+-- a name's spelling
+abbrev pub text_of : List Text → ℕ → Text
+text_of table name = get_or table name []
+
+abbrev pub kind_text : Kind → Text
+kind_text kind.Tokens = codes "tokens"
+kind_text kind.Instances = codes "instances"
+kind_text kind.Processes = codes "processes"
+kind_text kind.Terms = codes "terms"
+kind_text kind.Calls = codes "calls"
+kind_text kind.Words = codes "words"
+kind_text kind.Nodes = codes "nodes"
+kind_text kind.Edges = codes "edges"
+
+abbrev pub design_text : List Text → List Text → DesignFault → Text
+design_text files table design.NoTop = codes "no top module"
+design_text files table design.ManyTops = codes "many top modules"
+design_text files table (design.Duplicate at name) = at_place files at (codes "duplicate " ++ text_of table name.0)
+design_text files table (design.UnknownModule at name) = at_place files at (codes "unknown module " ++ text_of table name.0)
+design_text files table (design.SelfInstance at) = at_place files at (codes "instance of itself")
+design_text files table (design.UnknownPort at) = at_place files at (codes "unknown port")
+design_text files table (design.UnknownParam at) = at_place files at (codes "unknown parameter")
+design_text files table (design.UnknownName at name) = at_place files at (codes "unknown name " ++ text_of table name.0)
+design_text files table (design.WrongUse at name) = at_place files at (codes "wrong use of " ++ text_of table name.0)
+design_text files table (design.WrongAssign at) = at_place files at (codes "wrong assignment")
+design_text files table (design.NotConstant at) = at_place files at (codes "not constant")
+design_text files table (design.BadImport at) = at_place files at (codes "bad import")
+design_text files table (design.TooWide at) = at_place files at (codes "too wide")
+design_text files table (design.BadRange at) = at_place files at (codes "bad range")
+design_text files table (design.BadEvent at name) = at_place files at (codes "bad event " ++ text_of table name.0)
+design_text files table (design.DerivedClock at name) = at_place files at (codes "derived clock " ++ text_of table name.0)
+design_text files table (design.LoopTurns at) = at_place files at (codes "too many loop turns")
+design_text files table (design.TooMany k) = codes "too many " ++ kind_text k
+design_text files table design.NoMemory = out_of_memory

@@ -8,11 +8,13 @@ use Rattle.sv_pp.specs.declared.fault.PpFault.{PpFault}
 use Rattle.sv_pp.specs.declared.fault.PpFault.TheVariants as preprocessing
 use Rattle.parse_expr.specs.declared.fault.ParseFault.{ParseFault}
 use Rattle.parse_expr.specs.declared.fault.ParseFault.TheVariants as parsing
+use Rattle.sv_names.specs.declared.fault.DesignFault.{DesignFault}
+use Rattle.sv_names.specs.declared.fault.DesignFault.TheVariants as design
 use Rattle.run_status.specs.declared.status.Status.{Status}
 use Rattle.run_status.specs.declared.status.Status.TheVariants as status
 use Rattle.run_status.specs.Answer.{Tells, Refuses}
 use Rattle.vsim_lint.specs.Words.{Text}
-use Rattle.vsim_lint.specs.FaultText.{out_of_memory, lexing_text, preprocessing_text, parsing_text}
+use Rattle.vsim_lint.specs.FaultText.{out_of_memory, lexing_text, preprocessing_text, parsing_text, design_text}
 
 -- memory ran out, and the line says so
 abbrev pub Wants : Status → Option Written → Option Written → ℕ → ℕ → Type 0
@@ -30,3 +32,7 @@ RefusesPreprocessing s files table f told told' faults faults' = Refuses s (prep
 abbrev pub RefusesParsing : Status → List Text → List Text → List Token → ParseFault → Option Written → Option Written → ℕ → ℕ → Type 0
 RefusesParsing s files table tokens parsing.NoMemory told told' faults faults' = Wants s told told' faults faults'
 RefusesParsing s files table tokens f told told' faults faults' = Refuses s (parsing_text files table tokens f) told told' faults faults'
+
+abbrev pub RefusesDesign : Status → List Text → List Text → DesignFault → Option Written → Option Written → ℕ → ℕ → Type 0
+RefusesDesign s files table design.NoMemory told told' faults faults' = Wants s told told' faults faults'
+RefusesDesign s files table f told told' faults faults' = Refuses s (design_text files table f) told told' faults faults'

@@ -5,15 +5,16 @@ ghost use Rattle.run_status.specs.Written.{OnlyWrites};
 ghost use Rattle.sv_tree.specs.Tokens.{AreNamed};
 ghost use Rattle.sv_pp.specs.Answer.{IsSpelled};
 ghost use Rattle.vsim_lint.specs.FaultText as text;
-ghost use Rattle.vsim_lint.specs.Refusal.{RefusesLexing, RefusesPreprocessing, RefusesParsing};
+ghost use Rattle.vsim_lint.specs.Refusal.{RefusesLexing, RefusesPreprocessing, RefusesParsing, RefusesDesign};
 
 use crate::texts::text_at;
 use parse_expr::ParseFault;
 use run_status::{Status, out_of_memory, refuse, refuse_at};
 use sv_lex::LexFault;
+use sv_names::DesignFault;
 use sv_pp::{PpFault, without_backquote};
 use sv_tree::{NameId, Names, Token};
-use vs_base::Origin;
+use vs_base::{Kind, Origin};
 use vs_world::World;
 
 const MANY_TOKENS: &[u8] = b"too many tokens";
@@ -190,5 +191,76 @@ pub fn refuse_parsing<W: World>(
             )
         }
         ParseFault::NoMemory => out_of_memory(world),
+    }
+}
+
+// The spelling of a name, empty where the table has no such name.
+fn text_of(names: &Names, name: NameId) -> &[u8]
+    ensures { result.now ≡ text.text_of names.now name.0 }
+{
+    if (name.0 as usize) < names.len() {
+        return names.text(name);
+    }
+    &[]
+}
+
+// What there may be too many of.
+fn kind_text(kind: Kind) -> &'static [u8]
+    ensures { result.now ≡ text.kind_text kind }
+{
+    match kind {
+        Kind::Tokens => b"tokens",
+        Kind::Instances => b"instances",
+        Kind::Processes => b"processes",
+        Kind::Terms => b"terms",
+        Kind::Calls => b"calls",
+        Kind::Words => b"words",
+        Kind::Nodes => b"nodes",
+        Kind::Edges => b"edges",
+    }
+}
+
+/// Refuses by a fault of the design.
+pub fn refuse_design<W: World>(
+    world: &mut W,
+    files: &[Vec<u8>],
+    names: &Names,
+    fault: DesignFault,
+) -> Status
+    ensures told { RefusesDesign result (map (λ f. f.items) files.now) names.now fault (W.written world.old) (W.written world.new) (W.faults world.old) (W.faults world.new) }
+    ensures rest { OnlyWrites (W.faults world.old) (W.faults world.new) (W.absent world.old) (W.absent world.new) (W.files world.old) (W.files world.new) (W.made world.old) (W.made world.new) }
+{
+    match fault {
+        DesignFault::NoTop => refuse(world, b"no top module", b""),
+        DesignFault::ManyTops => refuse(world, b"many top modules", b""),
+        DesignFault::Duplicate(at, name) => {
+            refuse_place(world, files, at, b"duplicate ", text_of(names, name))
+        }
+        DesignFault::UnknownModule(at, name) => {
+            refuse_place(world, files, at, b"unknown module ", text_of(names, name))
+        }
+        DesignFault::SelfInstance(at) => refuse_place(world, files, at, b"instance of itself", b""),
+        DesignFault::UnknownPort(at) => refuse_place(world, files, at, b"unknown port", b""),
+        DesignFault::UnknownParam(at) => refuse_place(world, files, at, b"unknown parameter", b""),
+        DesignFault::UnknownName(at, name) => {
+            refuse_place(world, files, at, b"unknown name ", text_of(names, name))
+        }
+        DesignFault::WrongUse(at, name) => {
+            refuse_place(world, files, at, b"wrong use of ", text_of(names, name))
+        }
+        DesignFault::WrongAssign(at) => refuse_place(world, files, at, b"wrong assignment", b""),
+        DesignFault::NotConstant(at) => refuse_place(world, files, at, b"not constant", b""),
+        DesignFault::BadImport(at) => refuse_place(world, files, at, b"bad import", b""),
+        DesignFault::TooWide(at) => refuse_place(world, files, at, b"too wide", b""),
+        DesignFault::BadRange(at) => refuse_place(world, files, at, b"bad range", b""),
+        DesignFault::BadEvent(at, name) => {
+            refuse_place(world, files, at, b"bad event ", text_of(names, name))
+        }
+        DesignFault::DerivedClock(at, name) => {
+            refuse_place(world, files, at, b"derived clock ", text_of(names, name))
+        }
+        DesignFault::LoopTurns(at) => refuse_place(world, files, at, b"too many loop turns", b""),
+        DesignFault::TooMany(kind) => refuse(world, b"too many ", kind_text(kind)),
+        DesignFault::NoMemory => out_of_memory(world),
     }
 }

@@ -3,6 +3,7 @@ use Rattle.std.specs.Prelude.{Vec}
 use Rattle.std.specs.declared.alloc.Global.{Global}
 use Rattle.sv_lex.specs.Number.{is_no_number}
 use Rattle.run_status.specs.AnswerLaws.{refusal_ends}
+use Rattle.vsim_lint.specs.Names.{some_text}
 use Rattle.vsim_lint.specs.FaultText.{bad_number}
 use Rattle.vsim_lint.specs.Check.{TokensAnswer, NoNumber}
 use Rattle.vsim_lint.specs.EndLaws.{position_within}
@@ -16,4 +17,4 @@ refuse_number-requires g c = record { within = omega (arith, position_within (is
 
 pub returns-in-Err-clause-table : goal.returns-in-Err-clause-table
 returns-in-Err-clause-table g c = λ named.
-    refusal_ends (TokensAnswer (texts c.args.files.now) c.args.names.now c.args.tokens.now) named _ _ _ _ _ _ _ (bad_number (texts c.args.files.now) c.args.tokens.now c.in-Err.k) (NoNumber c.in-Err.k c.in-Err.ensures refl) c.refuse_number.ensures.told
+    refusal_ends (TokensAnswer (texts c.args.files.now) (some_text c.args.top.now) c.args.names.now c.args.tokens.now) named _ _ _ _ _ _ _ (bad_number (texts c.args.files.now) c.args.tokens.now c.in-Err.k) (NoNumber c.in-Err.k c.in-Err.ensures refl) c.refuse_number.ensures.told

@@ -6,6 +6,7 @@ use Rattle.sv_pp.specs.Active.{reading}
 use Rattle.sv_pp.specs.Answer.{AllNamed}
 use Rattle.run_status.specs.Answer.{Answer}
 use Rattle.run_status.specs.AnswerLaws.{table_weaker}
+use Rattle.vsim_lint.specs.Names.{some_text}
 use Rattle.vsim_lint.specs.Check.{ReadingAnswer, BytesAnswer, Lexed}
 use Rattle.vsim_lint.specs.CheckLaws.{some_bytes_answer}
 use Rattle.vsim_lint.specs.EndLaws.{all_named, memory_ends, lexing_ends}
@@ -19,7 +20,7 @@ lists l = map (λ (t : Vec Token Global). t.items) l
 
 pub returns-in_default-clause-table : goal.returns-in_default-clause-table
 returns-in_default-clause-table g c = λ named.
-    memory_ends (BytesAnswer (texts c.args.files.now) (texts c.args.contents.now)) named _ _ _ _ _ _ _ (some_bytes_answer (texts c.args.files.now) (texts c.args.contents.now)) (c.out_of_memory.ensures.status, c.out_of_memory.ensures.told)
+    memory_ends (BytesAnswer (texts c.args.files.now) (some_text c.args.top.now) (texts c.args.contents.now)) named _ _ _ _ _ _ _ (some_bytes_answer (texts c.args.files.now) (some_text c.args.top.now) (texts c.args.contents.now)) (c.out_of_memory.ensures.status, c.out_of_memory.ensures.told)
 
 pub check_tokens-requires : goal.check_tokens-requires
 check_tokens-requires g c =
@@ -30,11 +31,12 @@ pub returns-in-Ok-lex_files-clause-table : goal.returns-in-Ok-lex_files-clause-t
 returns-in-Ok-lex_files-clause-table g c = λ named.
     let names = c.lex_files.new.names in
     let files = texts c.args.files.now in
+    let top = some_text c.args.top.now in
     let tokens = lists c.in-Ok-lex_files.tokens.items in
     let lexed = c.in-Ok-lex_files.ensures.tokens in
-    table_weaker (ReadingAnswer files names (reading names (lists c.deref.result.now))) (BytesAnswer files (texts c.args.contents.now)) _ named _ _ _ _ _ _
-    (λ (a : Answer) is. Lexed lexed.whole names tokens lexed.shows (subst (λ (l : List (Vec Token Global)). ReadingAnswer files names (reading names (lists l)) a) c.deref.ensures.value is)) (c.check_tokens.ensures.table named)
+    table_weaker (ReadingAnswer files top names (reading names (lists c.deref.result.now))) (BytesAnswer files top (texts c.args.contents.now)) _ named _ _ _ _ _ _
+    (λ (a : Answer) is. Lexed lexed.whole names tokens lexed.shows (subst (λ (l : List (Vec Token Global)). ReadingAnswer files top names (reading names (lists l)) a) c.deref.ensures.value is)) (c.check_tokens.ensures.table named)
 
 pub returns-clause-table : goal.returns-clause-table
 returns-clause-table g c = λ named.
-    lexing_ends named _ _ _ _ _ _ _ (texts c.args.files.now) (texts c.args.contents.now) c.in-Err.fault c.in-Err.ensures.fault c.refuse_lexing.ensures.told
+    lexing_ends named _ _ _ _ _ _ _ (texts c.args.files.now) (some_text c.args.top.now) (texts c.args.contents.now) c.in-Err.fault c.in-Err.ensures.fault c.refuse_lexing.ensures.told

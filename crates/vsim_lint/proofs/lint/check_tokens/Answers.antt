@@ -6,6 +6,7 @@ use Rattle.sv_tree.specs.Tokens.{AreNamed}
 use Rattle.sv_pp.specs.Active.{reading}
 use Rattle.run_status.specs.Answer.{Answer}
 use Rattle.run_status.specs.AnswerLaws.{table_weaker}
+use Rattle.vsim_lint.specs.Names.{some_text}
 use Rattle.vsim_lint.specs.Check.{TokensAnswer, ReadingAnswer, Active}
 use Rattle.vsim_lint.specs.EndLaws.{preprocessing_ends}
 use Rattle.vsim_lint.proofs.lint.check_tokens.Goals as goal
@@ -23,13 +24,15 @@ pub returns-in-Ok-clause-table : goal.returns-in-Ok-clause-table
 returns-in-Ok-clause-table g c = λ named.
     let names = c.args.names.now in
     let files = map (λ (f : Vec ℕ Global). f.items) c.args.files.now in
+    let top = some_text c.args.top.now in
     let r = reading names (map (λ (t : Vec Token Global). t.items) c.args.tokens.now) in
     let reads = c.in-Ok.ensures.tokens in
-    table_weaker (TokensAnswer files names c.deref.result.now) (ReadingAnswer files names r) _ named _ _ _ _ _ _
-    (λ (a : Answer) is. Active reads.whole reads.few (subst (λ (ts : List Token). TokensAnswer files names ts a) (c.deref.ensures.value ∙ reads.tokens_are) is)) (c.check_active.ensures.table named)
+    table_weaker (TokensAnswer files top names c.deref.result.now) (ReadingAnswer files top names r) _ named _ _ _ _ _ _
+    (λ (a : Answer) is. Active reads.whole reads.few (subst (λ (ts : List Token). TokensAnswer files top names ts a) (c.deref.ensures.value ∙ reads.tokens_are) is)) (c.check_active.ensures.table named)
 
 pub returns-in-Err-clause-table : goal.returns-in-Err-clause-table
 returns-in-Err-clause-table g c = λ named.
     let names = c.args.names.now in
     let files = map (λ (f : Vec ℕ Global). f.items) c.args.files.now in
-    preprocessing_ends named _ _ _ _ _ _ _ files names (reading names (map (λ (t : Vec Token Global). t.items) c.args.tokens.now)) c.in-Err.fault c.in-Err.ensures.fault c.refuse_preprocessing.ensures.told
+    let top = some_text c.args.top.now in
+    preprocessing_ends named _ _ _ _ _ _ _ files top names (reading names (map (λ (t : Vec Token Global). t.items) c.args.tokens.now)) c.in-Err.fault c.in-Err.ensures.fault c.refuse_preprocessing.ensures.told
