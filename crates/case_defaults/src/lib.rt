@@ -19,7 +19,5 @@
 #![tactic(auto)]
 
 mod defaults;
-#[cfg(test)]
-mod tests;
 
 pub use defaults::find_second_default;

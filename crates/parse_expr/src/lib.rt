@@ -66,8 +66,6 @@ mod operand;
 mod source;
 mod subset;
 mod target;
-#[cfg(test)]
-mod tests;
 mod words;
 
 pub use class::{begins_expr, begins_type, is_fixed, is_vector, level_of};

@@ -42,8 +42,6 @@ mod edges;
 mod heads;
 mod simple;
 mod stmts;
-#[cfg(test)]
-mod tests;
 
 pub use edges::{NamedWord, named_word};
 pub use heads::{item_loop, stmt_loop, test};

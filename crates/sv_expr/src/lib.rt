@@ -51,8 +51,6 @@ mod prefix;
 mod scope;
 mod spelled;
 mod target;
-#[cfg(test)]
-mod tests;
 mod typed;
 mod walk;
 

@@ -64,8 +64,6 @@ mod seen;
 mod spelled;
 mod statements;
 mod survey;
-#[cfg(test)]
-mod tests;
 mod top;
 
 pub use check::check_names;

@@ -36,8 +36,6 @@
 mod expression;
 mod first;
 mod target;
-#[cfg(test)]
-mod tests;
 mod visit;
 
 pub use expression::{visit_args, visit_expr, visit_selects};

@@ -26,8 +26,6 @@ mod fault_text;
 mod inputs;
 mod lexing;
 mod lint;
-#[cfg(test)]
-mod tests;
 mod texts;
 mod words;
 
