@@ -10,6 +10,12 @@ mod fronts;
 #[cfg(test)]
 mod lint;
 #[cfg(test)]
+mod macros;
+#[cfg(test)]
 mod terms;
+#[cfg(test)]
+mod tokens;
+#[cfg(test)]
+mod trees;
 #[cfg(test)]
 mod values;

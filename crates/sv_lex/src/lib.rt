@@ -34,5 +34,3 @@ pub use file::{LexFault, lex, lex_up_to};
 pub use number::check_numbers;
 pub use piece::{Defect, Piece, front};
 
-#[cfg(test)]
-mod tests;

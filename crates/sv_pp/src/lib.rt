@@ -51,5 +51,3 @@ pub use fault::PpFault;
 pub use file::{preprocess, preprocess_up_to};
 pub use law::{conditional, one_answer, plain_files, tokens_or_fault};
 
-#[cfg(test)]
-mod tests;

@@ -56,8 +56,6 @@
 mod names;
 mod print;
 mod symbol;
-#[cfg(test)]
-mod tests;
 mod token;
 mod tree;
 

@@ -1,7 +1,9 @@
+//! Tokens of texts, and spellings of numbers.
+
 ghost use Rattle.std.specs.Prelude.{◌<◌, length};
 
-use super::*;
 use std::alloc::Global;
+use sv_lex::{Defect, LexFault, Piece, check_numbers, front, lex, lex_up_to};
 use sv_tree::{NameId, Names, Token, TokenKind};
 use vs_base::Origin;
 

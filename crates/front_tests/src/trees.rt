@@ -1,6 +1,11 @@
-use super::*;
+//! Trees that are built by hand, and symbols.
+
 use sqlite_items::{Boxed, Items};
 use std::alloc::{AllocError, Global};
+use sv_tree::{
+    Assignment, CommaList, Description, Expr, Item, Lvalue, Module, NameId, Names, NoMemory,
+    SourceTree, Step, Symbol, Token, TokenKind, symbol_of, tokens_of,
+};
 use vs_base::Origin;
 
 fn token(number: u32) -> Token {

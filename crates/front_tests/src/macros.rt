@@ -1,11 +1,16 @@
+//! What is left of the tokens of files after the directives.
+
 ghost use Rattle.std.specs.Prelude.{◌<◌, length, map, IfOk};
 ghost use Rattle.sv_tree.specs.Names.{Grows};
 ghost use Rattle.sv_tree.specs.Tokens.{AreNamed};
 ghost use Rattle.sv_pp.specs.Answer.{AllNamed};
 
-use super::*;
 use std::alloc::{AllocError, Global};
 use sv_lex::lex;
+use sv_pp::{
+    PpFault, Role, conditional, one_answer, plain_files, preprocess, preprocess_up_to, role_of,
+    tokens_or_fault,
+};
 use sv_tree::{NameId, Names, Token};
 use vs_base::Origin;
 
