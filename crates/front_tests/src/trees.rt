@@ -1,4 +1,4 @@
-//! Trees that are built by hand, and symbols.
+//! Tables of names, symbols, and trees that are built by hand.
 
 use sqlite_items::{Boxed, Items};
 use std::alloc::{AllocError, Global};
@@ -111,5 +111,31 @@ fn a_token_is_what_its_kind_and_spelling_say(rt: HostRuntime) -> Result<(), NoMe
         let token = Token { name, ..token };
         assert_eq!(rt; symbol_of(&names, token), want, "a symbol");
     }
+    Ok(())
+}
+
+#[test]
+fn numbers_come_in_order_and_stay(rt: HostRuntime) -> Result<(), NoMemory> {
+    let alloc = rt.alloc();
+    let mut names = Names::new(alloc)?;
+    assert_eq!(rt; names.len(), 0);
+    let table = [
+        (b"clk".as_slice(), 0),
+        (b"rst".as_slice(), 1),
+        (b"clk".as_slice(), 0),
+        (b"".as_slice(), 2),
+        (b"clk_n".as_slice(), 3),
+        (b"rst".as_slice(), 1),
+    ];
+    for (text, want) in table {
+        let id = names.intern(alloc, text)?;
+        assert_eq!(rt; id, NameId(want), "a number");
+        assert_eq!(rt; names.find(text), Some(NameId(want)), "found");
+    }
+    assert_eq!(rt; names.len(), 4);
+    assert_eq!(rt; names.find(b"Clk"), None);
+    assert!(rt; names.len() > 3);
+    assert_eq!(rt; names.text(NameId(1)), b"rst".as_slice());
+    assert_eq!(rt; names.text(NameId(3)), b"clk_n".as_slice());
     Ok(())
 }
