@@ -253,4 +253,3 @@ fn faults_of_the_world_are_told(rt: HostRuntime) -> Result<(), Fail> {
     }
     Ok(())
 }
-

@@ -66,10 +66,7 @@ fn seen_in(alloc: Global, text: &str) -> Result<Option<(Seen, u32)>, Fail> {
 
 #[test]
 fn ends_are_constant_and_an_index_is_not(rt: HostRuntime) -> Result<(), Fail> {
-    let table = [
-        ("- -v[a:b]", (6, 68, 4)),
-        ("- -v[a +: b]", (6, 11, 46)),
-    ];
+    let table = [("- -v[a:b]", (6, 68, 4)), ("- -v[a +: b]", (6, 11, 46))];
     for (text, (terms, constant, other)) in table {
         let want = Seen {
             terms,

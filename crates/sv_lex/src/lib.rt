@@ -33,4 +33,3 @@ mod table;
 pub use file::{LexFault, lex, lex_up_to};
 pub use number::check_numbers;
 pub use piece::{Defect, Piece, front};
-

@@ -50,4 +50,3 @@ pub use directive::{Role, role_of, without_backquote};
 pub use fault::PpFault;
 pub use file::{preprocess, preprocess_up_to};
 pub use law::{conditional, one_answer, plain_files, tokens_or_fault};
-
