@@ -1,7 +1,7 @@
 use Rattle.std.proofs.Common.{sym, subst, map}
 use Rattle.sv_pp.specs.Answer.{AllNamed}
 use Rattle.sv_pp.specs.NamedLaws.{named_grown}
-use Rattle.sv_pp.proofs.tests.both.Goals as goal
+use Rattle.front_tests.proofs.macros.both.Goals as goal
 
 pub returns : goal.returns
 returns c =
