@@ -118,7 +118,7 @@ fn two_names(alloc: Global) -> Result<Names, Fail> {
     Ok(names)
 }
 
-fn answer(alloc: Global, text: &str, ask: Ask) -> Result<Answer, Fail> {
+fn asked(alloc: Global, text: &str, ask: Ask) -> Result<Answer, Fail> {
     if text.len() > 1000 {
         return Ok(Answer::NotRead);
     }
@@ -167,7 +167,7 @@ fn types_and_values_are_those_of_the_standard(rt: HostRuntime) -> Result<(), Fai
         (Ask::Target, "{v, v, v, v, v}", Answer::TooWide(1)),
     ];
     for (ask, text, want) in table {
-        assert_eq!(rt; answer(rt.alloc(), text, ask)?, want, "{text}");
+        assert_eq!(rt; asked(rt.alloc(), text, ask)?, want, "{text}");
     }
     Ok(())
 }
