@@ -125,15 +125,25 @@ pub enum GenBlock {
 }
 
 /// `declr = NAME [ "[" expr [ ":" expr ] "]" ] [ "=" expr ]` (IEEE 1800-2017 A.2.4)
-#[derive(Drop)]
 pub struct Declaration {
     pub name: Token,
     pub dimension: Option<Dimension>,
     pub value: Option<Initial>,
 }
 
+impl Drop for Declaration {
+    fn drop(self) {
+        let Declaration {
+            name: _,
+            dimension,
+            value,
+        } = self;
+        let _ = dimension;
+        let _ = value;
+    }
+}
+
 /// `"[" expr [ ":" expr ] "]"`, which makes a memory.
-#[derive(Drop)]
 pub enum Dimension {
     Count {
         open: Token,
@@ -143,19 +153,53 @@ pub enum Dimension {
     Bounds(Range),
 }
 
+impl Drop for Dimension {
+    fn drop(self) {
+        match self {
+            Dimension::Count {
+                open: _,
+                count,
+                close: _,
+            } => {
+                let _ = count;
+            }
+            Dimension::Bounds(part) => {
+                let _ = part;
+            }
+        }
+    }
+}
+
 /// `"=" expr`
-#[derive(Drop)]
 pub struct Initial {
     pub mark: Token,
     pub value: Expr,
 }
 
+impl Drop for Initial {
+    fn drop(self) {
+        let Initial { mark: _, value } = self;
+        let _ = value;
+    }
+}
+
 /// `lvalue "=" expr`
-#[derive(Drop)]
 pub struct Assignment {
     pub target: Lvalue,
     pub mark: Token,
     pub value: Expr,
+}
+
+impl Drop for Assignment {
+    fn drop(self) {
+        let Assignment {
+            target,
+            mark: _,
+            value,
+        } = self;
+        let _ = target;
+        let _ = value;
+    }
 }
 
 /// `event = ( "posedge" | "negedge" ) NAME`
@@ -166,7 +210,6 @@ pub struct Event {
 }
 
 /// `"#" "(" [ conns ] ")"`
-#[derive(Drop)]
 pub struct Overrides {
     pub hash: Token,
     pub open: Token,
@@ -174,32 +217,75 @@ pub struct Overrides {
     pub close: Token,
 }
 
+impl Drop for Overrides {
+    fn drop(self) {
+        let Overrides {
+            hash: _,
+            open: _,
+            connections,
+            close: _,
+        } = self;
+        let _ = connections;
+    }
+}
+
 /// `[ conns ]`, where `conns = expr { "," expr } | conn { "," conn }`
-#[derive(Drop)]
 pub enum Connections {
     Ordered(Args),
     Named(CommaList<Connection>),
 }
 
+impl Drop for Connections {
+    fn drop(self) {
+        match self {
+            Connections::Ordered(part) => {
+                let _ = part;
+            }
+            Connections::Named(part) => {
+                let _ = part;
+            }
+        }
+    }
+}
+
 /// `conn = "." NAME [ "(" [ expr ] ")" ]`
-#[derive(Drop)]
 pub struct Connection {
     pub dot: Token,
     pub name: Token,
     pub value: Option<Connected>,
 }
 
+impl Drop for Connection {
+    fn drop(self) {
+        let Connection {
+            dot: _,
+            name: _,
+            value,
+        } = self;
+        let _ = value;
+    }
+}
+
 /// `"(" [ expr ] ")"`
-#[derive(Drop)]
 pub struct Connected {
     pub open: Token,
     pub value: Option<Expr>,
     pub close: Token,
 }
 
+impl Drop for Connected {
+    fn drop(self) {
+        let Connected {
+            open: _,
+            value,
+            close: _,
+        } = self;
+        let _ = value;
+    }
+}
+
 /// `import = "import" TEXT [ "pure" | "context" ] [ NAME "=" ] "function" rtype NAME
 /// "(" [ arg { "," arg } ] ")" ";"` (IEEE 1800-2017 A.2.6)
-#[derive(Drop)]
 pub struct Import {
     pub word: Token,
     pub text: Token,
@@ -212,6 +298,25 @@ pub struct Import {
     pub args: Option<CommaList<Argument>>,
     pub close: Token,
     pub semicolon: Token,
+}
+
+impl Drop for Import {
+    fn drop(self) {
+        let Import {
+            word: _,
+            text: _,
+            manner: _,
+            linkage: _,
+            function: _,
+            result: _,
+            name: _,
+            open: _,
+            args,
+            close: _,
+            semicolon: _,
+        } = self;
+        let _ = args;
+    }
 }
 
 /// `NAME "="`, the name under which an import is found.

@@ -5,22 +5,39 @@ use crate::tree::words::{DataType, Label, Setting};
 use sqlite_items::Items;
 
 /// `source = { import | module }`, all files of a design (IEEE 1800-2017 A.1.2).
-#[derive(Drop)]
 pub struct SourceTree {
     pub descriptions: Items<Description>,
 }
 
+impl Drop for SourceTree {
+    fn drop(self) {
+        let SourceTree { descriptions } = self;
+        let _ = descriptions;
+    }
+}
+
 /// `import | module`
-#[derive(Drop)]
 pub enum Description {
     Import(Import),
     Module(Module),
 }
 
+impl Drop for Description {
+    fn drop(self) {
+        match self {
+            Description::Import(part) => {
+                let _ = part;
+            }
+            Description::Module(part) => {
+                let _ = part;
+            }
+        }
+    }
+}
+
 /// `module = "module" NAME [ "#" "(" param { "," param } ")" ]
 /// [ "(" [ dir [ type ] NAME { "," port } ] ")" ] ";" { item } "endmodule" [ ":" NAME ]`
 /// (IEEE 1800-2017 A.1.2)
-#[derive(Drop)]
 pub struct Module {
     pub word: Token,
     pub name: Token,
@@ -32,8 +49,25 @@ pub struct Module {
     pub end_label: Option<Label>,
 }
 
+impl Drop for Module {
+    fn drop(self) {
+        let Module {
+            word: _,
+            name: _,
+            parameters,
+            ports,
+            semicolon: _,
+            items,
+            end: _,
+            end_label: _,
+        } = self;
+        let _ = parameters;
+        let _ = ports;
+        let _ = items;
+    }
+}
+
 /// `"#" "(" param { "," param } ")"`
-#[derive(Drop)]
 pub struct ParameterList {
     pub hash: Token,
     pub open: Token,
@@ -41,26 +75,69 @@ pub struct ParameterList {
     pub close: Token,
 }
 
+impl Drop for ParameterList {
+    fn drop(self) {
+        let ParameterList {
+            hash: _,
+            open: _,
+            list,
+            close: _,
+        } = self;
+        let _ = list;
+    }
+}
+
 /// `param = [ "parameter" ] [ type ] NAME "=" expr`
-#[derive(Drop)]
 pub struct Parameter {
     pub word: Option<Token>,
     pub kind: Option<DataType>,
     pub setting: Setting,
 }
 
+impl Drop for Parameter {
+    fn drop(self) {
+        let Parameter {
+            word: _,
+            kind,
+            setting,
+        } = self;
+        let _ = kind;
+        let _ = setting;
+    }
+}
+
 /// `"(" [ dir [ type ] NAME { "," port } ] ")"`
-#[derive(Drop)]
 pub struct PortList {
     pub open: Token,
     pub list: Option<CommaList<Port>>,
     pub close: Token,
 }
 
+impl Drop for PortList {
+    fn drop(self) {
+        let PortList {
+            open: _,
+            list,
+            close: _,
+        } = self;
+        let _ = list;
+    }
+}
+
 /// `port = [ dir ] [ type ] NAME`; the first port of a list has its direction.
-#[derive(Drop)]
 pub struct Port {
     pub direction: Option<Token>,
     pub kind: Option<DataType>,
     pub name: Token,
+}
+
+impl Drop for Port {
+    fn drop(self) {
+        let Port {
+            direction: _,
+            kind,
+            name: _,
+        } = self;
+        let _ = kind;
+    }
 }

@@ -86,7 +86,6 @@ pub enum Arm {
 }
 
 /// `"if" "(" expr ")"`
-#[derive(Drop)]
 pub struct Test {
     pub word: Token,
     pub open: Token,
@@ -94,9 +93,20 @@ pub struct Test {
     pub close: Token,
 }
 
+impl Drop for Test {
+    fn drop(self) {
+        let Test {
+            word: _,
+            open: _,
+            test,
+            close: _,
+        } = self;
+        let _ = test;
+    }
+}
+
 /// `"for" "(" [ word ] NAME "=" expr ";" expr ";" step ")"`, the head of a loop. The word is
 /// `int` or `integer` in a statement, and `genvar` or none among items.
-#[derive(Drop)]
 pub struct LoopHead {
     pub word: Token,
     pub open: Token,
@@ -109,13 +119,43 @@ pub struct LoopHead {
     pub close: Token,
 }
 
+impl Drop for LoopHead {
+    fn drop(self) {
+        let LoopHead {
+            word: _,
+            open: _,
+            kind: _,
+            start,
+            first: _,
+            test,
+            second: _,
+            step,
+            close: _,
+        } = self;
+        let _ = start;
+        let _ = test;
+        let _ = step;
+    }
+}
+
 /// `step = NAME "=" expr | NAME ( "++" | "--" ) | ( "++" | "--" ) NAME | NAME ( "+=" | "-=" ) expr`
-#[derive(Drop)]
 pub enum LoopStep {
     /// With `=`, `+=` or `-=`.
     Set(Setting),
     After { name: Token, mark: Token },
     Before { mark: Token, name: Token },
+}
+
+impl Drop for LoopStep {
+    fn drop(self) {
+        match self {
+            LoopStep::Set(part) => {
+                let _ = part;
+            }
+            LoopStep::After { name: _, mark: _ } => {}
+            LoopStep::Before { mark: _, name: _ } => {}
+        }
+    }
 }
 
 /// `lvalue = NAME { select } | "{" lvalue { "," lvalue } "}"` (IEEE 1800-2017 A.8.5)

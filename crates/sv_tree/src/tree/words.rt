@@ -3,7 +3,6 @@ use crate::tree::expr::Expr;
 
 /// `type = vec [ sign ] [ range ] | fixed [ sign ] | sign [ range ] | range` (IEEE 1800-2017
 /// A.2.2.1)
-#[derive(Drop)]
 pub enum DataType {
     Vector {
         word: Token,
@@ -18,6 +17,27 @@ pub enum DataType {
     Ranged(Range),
 }
 
+impl Drop for DataType {
+    fn drop(self) {
+        match self {
+            DataType::Vector {
+                word: _,
+                sign: _,
+                range,
+            } => {
+                let _ = range;
+            }
+            DataType::Fixed(_) => {}
+            DataType::Signed { sign: _, range } => {
+                let _ = range;
+            }
+            DataType::Ranged(part) => {
+                let _ = part;
+            }
+        }
+    }
+}
+
 /// `fixed [ sign ]`, and the types of an import: `rtype` and `atype`.
 #[derive(Clone, Copy, Debug)]
 pub struct WordType {
@@ -26,13 +46,26 @@ pub struct WordType {
 }
 
 /// `range = "[" expr ":" expr "]"`
-#[derive(Drop)]
 pub struct Range {
     pub open: Token,
     pub left: Expr,
     pub colon: Token,
     pub right: Expr,
     pub close: Token,
+}
+
+impl Drop for Range {
+    fn drop(self) {
+        let Range {
+            open: _,
+            left,
+            colon: _,
+            right,
+            close: _,
+        } = self;
+        let _ = left;
+        let _ = right;
+    }
 }
 
 /// `":" NAME`, after a word that opens or closes a block or a module.
@@ -43,9 +76,19 @@ pub struct Label {
 }
 
 /// `NAME "=" expr`
-#[derive(Drop)]
 pub struct Setting {
     pub name: Token,
     pub mark: Token,
     pub value: Expr,
+}
+
+impl Drop for Setting {
+    fn drop(self) {
+        let Setting {
+            name: _,
+            mark: _,
+            value,
+        } = self;
+        let _ = value;
+    }
 }
