@@ -1,0 +1,6 @@
+mod Examples
+mod Limits
+mod Arguments
+mod Asking
+mod Turning
+mod Advancing

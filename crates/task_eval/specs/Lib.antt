@@ -1,0 +1,10 @@
+pub mod Codes
+pub mod Places
+pub mod Moves
+pub mod Course
+pub mod Soundness
+pub mod Frames
+pub mod Buses
+pub mod SoundLaws
+pub mod CourseLaws
+pub mod Turns
