@@ -8,3 +8,4 @@ pub mod Buses
 pub mod SoundLaws
 pub mod CourseLaws
 pub mod Turns
+pub mod WithinLaws

@@ -94,8 +94,8 @@ impl Frame {
         ensures within { (words imports : ℕ) → IsWithin words imports code.now.ops → IsAskedWithin words imports result }
         ensures room { self.new.room ≡ self.old.room }
     {
-        let ops = code.ops();
-        let halt = advance(&mut self.stack, &ops[ops.len() - self.left..]);
+        let rest = last_ops(code.ops(), self.left);
+        let halt = advance(&mut self.stack, rest);
         self.left = halt.left;
         match halt.step {
             Step::Goes(_) => Ask::Done,
@@ -139,6 +139,14 @@ fn deepest_of(codes: &[Code]) -> usize
         most = most.max(code.stack() as usize);
     }
     most
+}
+
+// So many of the last ops.
+fn last_ops(ops: &[Op], left: usize) -> &[Op]
+    requires { left ≤ length ops.now }
+    ensures { result.now ≡ last left ops.now }
+{
+    &ops[ops.len() - left..]
 }
 
 // Runs to the next load, store or call, or to the end.
