@@ -2,12 +2,14 @@
 use Rattle.std.proofs.Common.{◌≡◌, ℕ, suc, ◌+◌, ◌-◌, ◌<◌, ◌≤◌, List, [], ◌∷◌, length, drop, get_or, refl, sym, ap, ◌∙◌, subst, arith}
 use Rattle.vs_base.specs.Number.{Number}
 use Rattle.task_eval.specs.declared.op.Op.{Op}
+use Rattle.task_eval.specs.declared.step.Step.{Step}
+use Rattle.task_eval.specs.declared.step.Step.TheVariants as step
 use Rattle.task_eval.specs.Moves.{Move, goes, move}
 use Rattle.task_eval.specs.Course.{from, course}
 use Rattle.task_eval.specs.Soundness.{IsFit, IsSoundFrom, IsSoundMove}
 use Rattle.task_eval.specs.SoundLaws.{move_sound, skip_within, sound_skip}
 use Rattle.task_eval.specs.CourseLaws.{course_skip, last_drop}
-use Rattle.task_eval.specs.Frames.{last}
+use Rattle.task_eval.specs.Frames.{last, IsLeft}
 
 -- the first op may be done
 pub first_fits : (room : ℕ) (rest : List Op) (d : Op) (depth : ℕ) → 0 < length rest → IsSoundFrom room rest 0 depth → IsFit room (get_or rest 0 d) depth
@@ -46,3 +48,10 @@ halted room (o ∷ more) ops d before m some within is e s =
       ap (λ (rest : List Op). from m (course rest)) (sym tail) ∙ ap (λ (k : Move). from k (course more)) e,
       subst (λ (rest : List Op). IsSoundMove room rest m) tail (subst (IsSoundMove room more) (sym e) (move_sound room o more before s))
     )
+
+-- where a step does not go on, fewer ops are left
+pub left_fewer : (s : Step) (left before : ℕ) → ((skip : ℕ) → s ≡ step.Goes skip → ⊥) → left < before → IsLeft s left before
+left_fewer (step.Goes skip) left before halts few = absurd (halts skip refl)
+left_fewer (step.Loads word width) left before halts few = few
+left_fewer (step.Stores word value) left before halts few = few
+left_fewer (step.Calls import count width) left before halts few = few

@@ -2,15 +2,13 @@
 use Rattle.std.proofs.Common.{◌≡◌, ℕ, List, [], ◌∷◌, true, false, refl, arith, Some, None, negsuc}
 use Rattle.vs_base.specs.Number.{Number}
 use Rattle.dpi_host.specs.HostMachine.{Answer, After}
-use Rattle.task_eval.specs.declared.op.Op.{Op}
 use Rattle.task_eval.specs.declared.op.Op.TheVariants as op
-use Rattle.task_eval.specs.declared.op.One.TheVariants as one
 use Rattle.task_eval.specs.declared.op.Two.TheVariants as two
 use Rattle.task_eval.specs.declared.index.Elements.{Elements}
 use Rattle.task_eval.specs.declared.frame.Ask.TheVariants as ask
 use Rattle.task_eval.specs.Codes.{Ops}
-use Rattle.task_eval.specs.Places.{place_of, word_at}
-use Rattle.task_eval.specs.Moves.{goes, loads, stores, calls, arguments, move}
+use Rattle.task_eval.specs.Places.{word_at}
+use Rattle.task_eval.specs.Moves.{goes, arguments, move}
 use Rattle.task_eval.specs.Course.{asked, course_of}
 use Rattle.task_eval.specs.Soundness.{IsSound}
 use Rattle.task_eval.specs.Buses.{Outside, Deed, stored, run}

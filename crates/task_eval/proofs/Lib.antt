@@ -1,6 +1,5 @@
 mod Examples
-mod Limits
+mod Rows
 mod Arguments
 mod Asking
-mod Turning
 mod Advancing

@@ -1,8 +1,8 @@
 -- Laws of runs, for the proofs of this crate and of those above it.
-use Rattle.std.proofs.Common.{◌≡◌, ℕ, zero, suc, ◌+◌, ◌-◌, ◌*◌, ◌<◌, ◌≤◌, List, [], ◌∷◌, ◌++◌, length, length-drop, drop, refl, sym, ap, ◌∙◌, subst, arith, Option, Some, None, Bool, true, false, cond}
+use Rattle.std.proofs.Common.{◌≡◌, ℕ, zero, suc, ◌+◌, ◌-◌, ◌≤◌, List, [], ◌∷◌, ◌++◌, length, length-drop, drop, refl, sym, ap, ◌∙◌, arith}
 use Rattle.std.proofs.Math.Seq.{drop-length}
 use Rattle.std.proofs.lemmas.List.{drop-drop}
-use Rattle.vs_base.specs.Number.{Number, kept}
+use Rattle.vs_base.specs.Number.{Number}
 use Rattle.task_eval.specs.declared.op.Op.{Op}
 use Rattle.task_eval.specs.Course.{course}
 use Rattle.task_eval.specs.Frames.{last}

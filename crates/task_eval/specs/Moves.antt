@@ -8,7 +8,6 @@ use Rattle.task_eval.specs.declared.op.Two.{Two}
 use Rattle.task_eval.specs.declared.op.Two.TheVariants as two
 use Rattle.task_eval.specs.declared.op.Op.{Op}
 use Rattle.task_eval.specs.declared.op.Op.TheVariants as op
-use Rattle.task_eval.specs.declared.index.Elements.{Elements}
 use Rattle.task_eval.specs.Places.{place_of, word_at}
 
 -- what an operator gives for one operand

@@ -1,11 +1,11 @@
 -- Laws of soundness, for the proofs of this crate and of those above it.
-use Rattle.std.proofs.Common.{◌≡◌, ℕ, zero, suc, ◌+◌, ◌-◌, ◌*◌, ◌<◌, ◌≤◌, List, [], ◌∷◌, ◌++◌, length, drop, refl, sym, ap, subst, arith, Option, Some, None, Bool, true, false, cond}
-use Rattle.vs_base.specs.Number.{Number, kept}
+use Rattle.std.proofs.Common.{◌≡◌, ℕ, zero, suc, ◌+◌, ◌-◌, ◌<◌, ◌≤◌, List, [], ◌∷◌, ◌++◌, length, drop, refl, subst, arith, Option, Some, None, Bool, true, false, cond}
+use Rattle.vs_base.specs.Number.{Number}
 use Rattle.task_eval.specs.declared.op.Op.{Op}
 use Rattle.task_eval.specs.declared.op.Op.TheVariants as op
 use Rattle.task_eval.specs.Places.{word_at}
-use Rattle.task_eval.specs.Moves.{Move, goes, loads, stores, calls, on_one, on_two, on_three, load_at, store_at, move}
-use Rattle.task_eval.specs.Soundness.{takes, puts, IsWidth, IsFit, AllWays, IsSoundFrom, CanTake, IsSoundMove}
+use Rattle.task_eval.specs.Moves.{Move, on_one, on_two, on_three, load_at, store_at, move}
+use Rattle.task_eval.specs.Soundness.{takes, puts, IsWidth, IsFit, AllWays, IsSoundFrom, IsSoundMove}
 
 -- what follows from the ways follows on each way
 pub ways_map : (o : Op) (P Q : ℕ → Type 0) → ((n : ℕ) → P n → Q n) → AllWays o P → AllWays o Q

@@ -1,5 +1,5 @@
 -- A code that names only words and imports that are there asks for no others.
-use Rattle.std.proofs.Common.{◌≡◌, ℕ, zero, suc, ◌+◌, ◌*◌, ◌<◌, List, [], ◌∷◌, drop, sym, subst, Option, Some, None, cond, ℤ, pos, negsuc, inl, inr}
+use Rattle.std.proofs.Common.{ℕ, zero, suc, ◌+◌, ◌*◌, ◌<◌, List, [], ◌∷◌, drop, sym, subst, Option, Some, None, cond, ℤ, pos, negsuc, inl, inr}
 use Rattle.std.proofs.lemmas.Bool.{le-ltb, lt-ltb, cases_lt}
 use Rattle.vs_base.specs.Number.{Number}
 use Rattle.task_eval.specs.declared.op.Op.{Op}

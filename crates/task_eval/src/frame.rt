@@ -1,5 +1,5 @@
 //! A node that runs, event by event.
-ghost use Rattle.std.specs.Prelude.{◌≡◌, ℕ, ◌<◌, ◌≤◌, List, length, drop, take, IfOk};
+ghost use Rattle.std.specs.Prelude.{◌≡◌, ℕ, ◌+◌, ◌<◌, ◌≤◌, List, length, drop, take, IfOk};
 ghost use Rattle.task_eval.specs.Codes.{deepest};
 ghost use Rattle.task_eval.specs.Course.{course, course_of, from, asks, asked};
 ghost use Rattle.task_eval.specs.Soundness.{IsSoundFrom, IsSoundMove, IsWithin};
@@ -160,7 +160,7 @@ fn advance(stack: &mut Stack, ops: &[Op]) -> Halt
     let mut rest = ops;
     while rest.len() > 0 {
         match perform(stack, rest[0]) {
-            Step::Goes(skip) => rest = &rest[1 + skip as usize..],
+            Step::Goes(skip) => rest = after_skip(rest, skip),
             event => {
                 return Halt {
                     left: rest.len() - 1,
@@ -173,6 +173,14 @@ fn advance(stack: &mut Stack, ops: &[Op]) -> Halt
         left: 0,
         step: Step::Goes(0),
     }
+}
+
+// What follows the first op and so many more.
+fn after_skip(ops: &[Op], skip: u32) -> &[Op]
+    requires { 1 + skip ≤ length ops.now }
+    ensures { result.now ≡ drop (1 + skip) ops.now }
+{
+    &ops[1 + skip as usize..]
 }
 
 // Takes so many arguments from the stack, the last one first.

@@ -1,4 +1,4 @@
-use Rattle.std.proofs.Common.{◌≡◌, ◌-◌, ◌∷◌, List, ℕ, take, drop, set, sym, ap, ◌∙◌, arith}
+use Rattle.std.proofs.Common.{◌-◌, ℕ, take, drop, set, sym, ap, ◌∙◌, arith}
 use Rattle.task_eval.proofs.Arguments.{args_step, stack_step}
 use Rattle.task_eval.proofs.frame.take_arguments.Goals as goal
 

@@ -1,4 +1,4 @@
-use Rattle.std.proofs.Common.{◌≡◌, ◌≤◌, ◌-◌, take, drop, length}
+use Rattle.std.proofs.Common.{◌≡◌, ◌≤◌, ◌-◌, take, drop}
 use Rattle.task_eval.specs.Moves.{arguments}
 use Rattle.task_eval.proofs.frame.take_arguments.Given as goal
 
