@@ -23,11 +23,10 @@ skipped room [] d before stack skip some e s = absurd (omega arith)
 skipped room (o ∷ more) d before stack skip some e s =
     let next : 1 + skip ≡ suc skip = omega arith in
     let m : IsSoundFrom room more skip (length stack) = subst (IsSoundMove room more) (sym e) (move_sound room o more before s) in
-    let lands : skip ≤ length more = skip_within room more skip (length stack) m in
-    (
+    let lands : skip ≤ length more = skip_within room more skip (length stack) m in (
       ap (λ (n : ℕ). course (drop n (o ∷ more)) 0 stack) next ∙ sym (course_skip skip more stack) ∙ ap (λ (k : Move). from k (course more)) e,
       subst (λ (n : ℕ). IsSoundFrom room (drop n (o ∷ more)) 0 (length stack)) (sym next) (sound_skip room more skip (length stack) m),
-      omega arith
+      omega arith,
     )
 
 -- what is left of the last ops once the first was done
@@ -43,10 +42,9 @@ pub halted : (room : ℕ) (rest ops : List Op) (d : Op) (before : List Number) (
     → (from m (course (last (length rest - 1) ops)) ≡ course rest 0 before) × IsSoundMove room (last (length rest - 1) ops) m
 halted room [] ops d before m some within is e s = absurd (omega arith)
 halted room (o ∷ more) ops d before m some within is e s =
-    let tail = tail_is o more ops within is in
-    (
+    let tail = tail_is o more ops within is in (
       ap (λ (rest : List Op). from m (course rest)) (sym tail) ∙ ap (λ (k : Move). from k (course more)) e,
-      subst (λ (rest : List Op). IsSoundMove room rest m) tail (subst (IsSoundMove room more) (sym e) (move_sound room o more before s))
+      subst (λ (rest : List Op). IsSoundMove room rest m) tail (subst (IsSoundMove room more) (sym e) (move_sound room o more before s)),
     )
 
 -- where a step does not go on, fewer ops are left

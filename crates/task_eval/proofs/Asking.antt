@@ -1,16 +1,14 @@
 -- A frame at the beginning of a code, and what it asks for.
 use Rattle.std.proofs.Common.{◌≡◌, ℕ, ◌-◌, ◌≤◌, List, [], length, sym, ap, ◌∙◌, subst, arith}
-use Rattle.vs_base.specs.Number.{Number}
 use Rattle.task_eval.specs.declared.op.Op.{Op}
 use Rattle.task_eval.specs.declared.frame.Ask.{Ask}
-use Rattle.task_eval.specs.declared.step.Step.{Step}
 use Rattle.task_eval.specs.Codes.{Ops}
-use Rattle.task_eval.specs.Course.{from, course, course_of, asks}
+use Rattle.task_eval.specs.Course.{course, course_of, asks}
 use Rattle.task_eval.specs.Soundness.{IsSoundFrom, IsSound, IsWithin}
 use Rattle.task_eval.specs.SoundLaws.{sound_more}
 use Rattle.task_eval.specs.CourseLaws.{last_all}
 use Rattle.task_eval.specs.WithinLaws.{asks_within, within_drop}
-use Rattle.task_eval.specs.Frames.{Running, last, moved, going, IsReady, IsAskedWithin}
+use Rattle.task_eval.specs.Frames.{Running, last, going, IsReady, IsAskedWithin}
 
 -- a frame at the beginning of a code
 
@@ -31,15 +29,6 @@ starts_going code f left stack =
 -- what is asked for is there
 asked_within : (words imports : ℕ) (code : Ops) (f : Running) → IsWithin words imports code.ops → IsAskedWithin words imports (asks (going code f))
 asked_within words imports code f h = asks_within words imports (last f.left code.ops) 0 f.stack (within_drop words imports (length code.ops - f.left) code.ops h)
-
--- what a frame asks for is what the run of its code asks, as far as it was advanced
-pub asked_at : (code : Ops) (inside f : Running) (here ops : List Op) (s : Step) (left : ℕ) (values : List Number) (a : Ask) → inside ≡ f → here ≡ last inside.left ops → ops ≡ code.ops → from (moved s values) (course (last left here)) ≡ course here 0 inside.stack → a ≡ asks (from (moved s values) (course (last left here))) → a ≡ asks (going code f)
-asked_at code inside f here ops s left values a viewed is_here is_ops h is =
-    is
-    ∙ ap asks h
-    ∙ ap (λ (os : List Op). asks (course os 0 inside.stack)) is_here
-    ∙ ap (λ (os : List Op). asks (course (last inside.left os) 0 inside.stack)) is_ops
-    ∙ ap (λ (g : Running). asks (going code g)) viewed
 
 pub asked_there : (words imports : ℕ) (code : Ops) (f : Running) (a : Ask) → a ≡ asks (going code f) → IsWithin words imports code.ops → IsAskedWithin words imports a
 asked_there words imports code f a e h = subst (IsAskedWithin words imports) (sym e) (asked_within words imports code f h)

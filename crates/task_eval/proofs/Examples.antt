@@ -101,11 +101,16 @@ runs_to_the_sum : (answer : Answer) (after : After) → run answer after (course
 runs_to_the_sum answer after = refl
 
 adds_is_sound : IsSound 2 adds.ops
-adds_is_sound =
-    (record { enough = omega arith; room = omega arith; shaped = (omega arith, omega arith) },
-      (record { enough = omega arith; room = omega arith; shaped = (omega arith, omega arith) },
-        (record { enough = omega arith; room = omega arith; shaped = (omega arith, omega arith) },
-          (record { enough = omega arith; room = omega arith; shaped = (omega arith, omega arith) }, refl))))
+adds_is_sound = (
+  record { enough = omega arith; room = omega arith; shaped = (omega arith, omega arith) },
+  (
+    record { enough = omega arith; room = omega arith; shaped = (omega arith, omega arith) },
+    (
+      record { enough = omega arith; room = omega arith; shaped = (omega arith, omega arith) },
+      (record { enough = omega arith; room = omega arith; shaped = (omega arith, omega arith) }, refl),
+    ),
+  ),
+)
 
 -- one value of room is too little, and so is a jump past the end
 adds_needs_two : IsSound 1 adds.ops → ⊥

@@ -38,9 +38,9 @@ pub sound_more : (most room : ℕ) (ops : List Op) (skip depth : ℕ) → most �
 sound_more most room [] skip depth h s = s
 sound_more most room (o ∷ more) (suc skip) depth h s = sound_more most room more skip depth h s
 sound_more most room (o ∷ more) zero depth h s = (
-    fit_more most room o depth h s.0,
-    ways_map o (λ n. IsSoundFrom most more n (depth - takes o + puts o)) (λ n. IsSoundFrom room more n (depth - takes o + puts o)) (λ n. sound_more most room more n (depth - takes o + puts o) h) s.1
-  )
+  fit_more most room o depth h s.0,
+  ways_map o (λ n. IsSoundFrom most more n (depth - takes o + puts o)) (λ n. IsSoundFrom room more n (depth - takes o + puts o)) (λ n. sound_more most room more n (depth - takes o + puts o) h) s.1,
+)
 
 -- a skip lands within the ops or at their end
 pub skip_within : (room : ℕ) (ops : List Op) (n depth : ℕ) → IsSoundFrom room ops n depth → n ≤ length ops

@@ -1,11 +1,10 @@
-ghost use Rattle.std.specs.Prelude.{◌≡◌, ◌↔◌, [], ◌∷◌, Some, None, true, slice_index, length, refl, ◌%◌, ◌^◌, IfOk};
+ghost use Rattle.std.specs.Prelude.{[], ◌∷◌, Some, None, true, slice_index, refl};
 ghost use Rattle.task_eval.specs.Soundness.{IsSound, IsWithin};
-ghost use Rattle.dpi_host.specs.HostMachine.{IsByArgs};
 
 use super::*;
 use dpi_host::{Answers, Host, NoMemory, argument};
 use sqlite_items::Items;
-use std::alloc::{AllocError, Global};
+use std::alloc::Global;
 use vs_base::Bits;
 
 // A host whose imports give their first argument back.
@@ -53,7 +52,7 @@ impl Host for Echo {
         Ok(Echo)
     }
 
-    ghost lawful = { λ fixed id. (λ holds. record { ignores = λ s t args. refl; keeps = λ s args. refl }, λ is. tt) };
+    ghost lawful = { λ fixed id. (λ holds. record { ignores = λ s t args. refl; keeps = λ s args. refl }, λ is. refl) };
 }
 
 // Words in a list, and an import with a result of 8 bits.
@@ -95,7 +94,6 @@ const ROW: Elements = Elements {
 fn run_on(alloc: Global, ops: &[Op], words: [u64; 10]) -> Result<Vec<u64>, NoMemory>
     requires sound { IsSound 2 ops.now }
     requires within { IsWithin 10 1 ops.now }
-    ensures { IfOk result (λ words. length words.items ≡ 10) }
 {
     let Ok(ops) = Items::from_slice(alloc, ops) else {
         return Err(NoMemory);
@@ -138,7 +136,10 @@ fn a_sum_is_stored_in_an_element(rt: HostRuntime) -> Result<(), NoMemory> {
         Op::Store { word: 8, width: 8 },
     ];
     let words = run_on(rt.alloc(), &ops, [0, 0xff, 0xff, 3, 5, 5, 5, 5, 8, 9])?;
-    assert_eq!(rt; words.as_slice(), [0, 0xff, 0xff, 3, 5, 5, 0x7f, 5, 0, 9].as_slice());
+    assert_eq!(rt;
+        words.as_slice(),
+        [0, 0xff, 0xff, 3, 5, 5, 0x7f, 5, 0, 9].as_slice()
+    );
     Ok(())
 }
 
@@ -158,6 +159,9 @@ fn a_skipped_store_is_not_made(rt: HostRuntime) -> Result<(), NoMemory> {
         Op::Store { word: 9, width: 8 },
     ];
     let words = run_on(rt.alloc(), &ops, [0, 1, 2, 3, 4, 5, 6, 7, 8, 9])?;
-    assert_eq!(rt; words.as_slice(), [0, 1, 2, 3, 4, 5, 6, 7, 8, 0xbc].as_slice());
+    assert_eq!(rt;
+        words.as_slice(),
+        [0, 1, 2, 3, 4, 5, 6, 7, 8, 0xbc].as_slice()
+    );
     Ok(())
 }

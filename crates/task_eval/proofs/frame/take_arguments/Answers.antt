@@ -10,7 +10,7 @@ loop-left-preserved c =
     record {
       within = omega arith;
       args = ap (λ (x : ℕ). drop (c.loop-left.left - 1) (take c.args.count (set c.loop-left.args (c.loop-left.left - 1) x))) c.low_bits.ensures
-        ∙ args_step values c.pop.new.self.values c.loop-left.args c.pop.result c.args.count c.loop-left.left (omega arith) i.within (omega arith) here i.args;
+          ∙ args_step values c.pop.new.self.values c.loop-left.args c.pop.result c.args.count c.loop-left.left (omega arith) i.within (omega arith) here i.args;
       stack = stack_step values c.pop.new.self.values c.pop.result c.args.count c.loop-left.left (omega arith) i.within here;
       room = c.pop.ensures.room ∙ i.room;
     }
