@@ -1,0 +1,9 @@
+mod Counts
+mod Digits
+mod Examples
+mod LineCuts
+mod Names
+mod Sets
+mod Tails
+mod Turns
+mod WordCuts

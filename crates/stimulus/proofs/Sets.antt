@@ -1,0 +1,64 @@
+-- The acts on an input.
+use Rattle.std.proofs.Common.{◌≡◌, ℕ, suc, ◌+◌, ◌^◌, ◌<◌, ◌≤◌, List, [], ◌∷◌, length, Bool, true, false, cond, refl, sym, ap, ◌∙◌, subst, arith}
+use Rattle.std.specs.Prelude.{Option, Some, None, Result, Ok, Err, IfSome, nat_lt}
+use Rattle.std.specs.List.{position_from}
+use Rattle.std.proofs.lemmas.Bool.{lt-ltb, ltb-true}
+use Rattle.std.proofs.lemmas.Nat.{pow_pos}
+use Rattle.std.proofs.Math.Nat.{mod-eq_of_lt, mod-lt}
+use Rattle.vs_base.specs.Number.{kept}
+use Rattle.vs_base.specs.declared.act.Act.{Act}
+use Rattle.vs_base.specs.declared.act.Act.TheVariants.{Set, Clock}
+use Rattle.rtl_ir.specs.declared.design.Var.{Var}
+use Rattle.rtl_ir.specs.declared.design.Port.{Port}
+use Rattle.stimulus.specs.declared.fault.StimFault.{StimFault}
+use Rattle.stimulus.specs.declared.fault.StimFault.TheVariants.{BadLine, UnknownInput, ValueTooWide}
+use Rattle.stimulus.specs.StimulusText.{Text, is_hex, hex_value, is_count, count_value}
+use Rattle.stimulus.specs.Stimulus.{StimPort, stim_port, stim_ports, is_input, place_of, width_at, set_input, set_act, clock_input, clock_act}
+
+-- ---- the place of a name
+
+below : (name : Text) (k : ℕ) (vars : List Var) (ports : List Port) (place : ℕ) → position_from (is_input name) k (stim_ports vars ports) ≡ Some place → place < k + length ports
+below name k vars [] place at = cc
+below name k vars (p ∷ ports) place at = by (is_input name (stim_port vars p)) at
+  where
+    by : (b : Bool) → cond b (Some k) (position_from (is_input name) (k + 1) (stim_ports vars ports)) ≡ Some place → place < k + suc (length ports)
+    by true h = let same : k ≡ place = cc in omega arith
+    by false h = let less : place < k + 1 + length ports = below name (k + 1) vars ports place h in omega arith
+
+-- a place that is found is that of a port
+pub place_within : (vars : List Var) (ports : List Port) (name : Text) (r : Option ℕ) → r ≡ place_of (stim_ports vars ports) name → IfSome r (λ place. place < length ports)
+place_within vars ports name None at = tt
+place_within vars ports name (Some place) at = let less : place < 0 + length ports = below name 0 vars ports place (sym at) in omega arith
+
+-- ---- the act of a set
+
+wrong_is_false : (b : Bool) → (b ≡ true → ⊥) → b ≡ false
+wrong_is_false true h = absurd (h refl)
+wrong_is_false false h = refl
+
+module _ (ports : List StimPort) (n place width value : ℕ) (is_width : width ≡ width_at ports place) where
+  abbrev set_where : Bool → Result (Option Act) StimFault
+  set_where b = cond b (Ok (Some (Set place (kept (width_at ports place) value)))) (Err (ValueTooWide n))
+
+  pub too_wide : ((kept width value).value ≡ value → ⊥) → Err (ValueTooWide n) ≡ set_input ports n value (Some place)
+  too_wide cut =
+      let above : nat_lt value (2 ^ width_at ports place) ≡ false = wrong_is_false (nat_lt value (2 ^ width_at ports place))
+      (λ h. cut (mod-eq_of_lt (subst (λ (w : ℕ). value < 2 ^ w) (sym is_width) (ltb-true value (2 ^ width_at ports place) h)))) in
+      sym (ap set_where above)
+
+  pub is_set : (kept width value).value ≡ value → Ok (Some (Set place (kept width value))) ≡ set_input ports n value (Some place)
+  is_set whole =
+      let small : value < 2 ^ width = subst (λ (v : ℕ). v < 2 ^ width) whole (mod-lt value (pow_pos width)) in
+      let fits : nat_lt value (2 ^ width_at ports place) ≡ true = lt-ltb value (2 ^ width_at ports place) (subst (λ (w : ℕ). value < 2 ^ w) is_width small) in
+      ap (λ (w : ℕ). Ok (Some (Set place (kept w value)))) is_width ∙ sym (ap set_where fits)
+
+-- ---- the act of a line of three words
+
+module _ (ports : List StimPort) (n : ℕ) (name digits : Text) (r : Option ℕ) (at : r ≡ place_of ports name) (value : ℕ) where
+  pub set_found : is_hex digits ≡ true → value ≡ hex_value digits → set_input ports n value r ≡ set_act ports n name digits
+  set_found good is =
+      (λ i. set_input ports n (is i) (at i)) ∙ sym (ap (λ (b : Bool). cond b (set_input ports n (hex_value digits) (place_of ports name)) (Err (BadLine n))) good)
+
+  pub clock_found : is_count digits ≡ true → value ≡ count_value digits → clock_input n value r ≡ clock_act ports n name digits
+  clock_found good is =
+      (λ i. clock_input n (is i) (at i)) ∙ sym (ap (λ (b : Bool). cond b (clock_input n (count_value digits) (place_of ports name)) (Err (BadLine n))) good)

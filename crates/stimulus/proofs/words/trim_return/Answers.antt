@@ -1,0 +1,12 @@
+use Rattle.std.proofs.Common.{[], ◌∷◌}
+use Rattle.std.specs.Prelude.{Some, None}
+use Rattle.std.proofs.lemmas.Bool.Decides.{Decides-eqb}
+use Rattle.std.proofs.lemmas.Slice.Eq.{strip_suffix_is}
+use Rattle.stimulus.proofs.LineCuts.{trimmed, untrimmed}
+use Rattle.stimulus.proofs.words.trim_return.Goals as goal
+
+pub returns-in-Some : goal.returns-in-Some
+returns-in-Some c = trimmed c.args.line.now c.in-Some.front.now (strip_suffix_is Decides-eqb c.args.line.now (13 ∷ []) (Some c.in-Some.front) c.in-Some.ensures.cases)
+
+pub returns-in-None : goal.returns-in-None
+returns-in-None c = untrimmed c.args.line.now (strip_suffix_is Decides-eqb c.args.line.now (13 ∷ []) None c.in-None.ensures.cases)
