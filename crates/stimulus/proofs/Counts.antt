@@ -1,5 +1,5 @@
 -- Counts, digit by digit.
-use Rattle.std.proofs.Common.{◌≡◌, ℕ, suc, ◌+◌, ◌-◌, ◌*◌, ◌^◌, ◌<◌, ◌≤◌, List, [], ◌∷◌, length, get_or, take, drop, true, sym, ap, ◌∙◌, subst, arith, lit<}
+use Rattle.std.proofs.Common.{◌≡◌, ℕ, suc, ◌+◌, ◌-◌, ◌*◌, ◌^◌, ◌<◌, ◌≤◌, List, [], ◌∷◌, length, get_or, take, drop, true, refl, sym, ap, ◌∙◌, subst, arith, lit<}
 use Rattle.std.specs.Prelude.{◌&&◌, fold}
 use Rattle.std.specs.List.{list_all}
 use Rattle.std.proofs.lemmas.Nat.{pow-add}
@@ -13,6 +13,17 @@ pub record Counting (text rest : List ℕ) (value : ℕ) : Type 0 where
   pub total : fold (λ n c. n * 10 + (c - 48)) value rest ≡ count_value text
   pub few : length rest ≤ 7
   pub small : value < 10 ^ (7 - length rest)
+
+pub counting_starts : (text : List ℕ) → length text ≤ 7 → Counting text text 0
+counting_starts text few = record {
+  digits = refl;
+  total = refl;
+  few = few;
+  small =
+      let least : 0 ≤ 7 - length text = omega arith in
+      let one : 10 ^ 0 ≤ 10 ^ (7 - length text) = pow-le-pow_right (lit< tt) least in
+      omega arith;
+}
 
 next_small : (k v d : ℕ) → v < 10 ^ k → d < 10 → v * 10 + d < 10 ^ suc k
 next_small k v d h small =

@@ -1,6 +1,7 @@
 mod Counts
 mod Digits
 mod Examples
+mod Fits
 mod LineCuts
 mod Names
 mod Sets

@@ -18,21 +18,26 @@ use Rattle.stimulus.proofs.Tails.{tail_is}
 
 -- ---- the keys of the map are seen as texts
 
+abbrev pub seen : {K : Type 0} → (K → Text) → List (K × ℕ) → Entries
+seen f es = map (λ e. (f e.0, e.1)) es
+
 -- a look-up by text
-pub looked_up : {K : Type 0} (f : K → Text) (q : Text) (es : List (K × ℕ)) → lookup (λ t. bytes_eq q t) (map (λ e. (f e.0, e.1)) es) ≡ lookup (λ k. bytes_eq q (f k)) es
+pub looked_up : {K : Type 0} (f : K → Text) (q : Text) (es : List (K × ℕ)) → lookup (λ t. bytes_eq q t) (seen f es) ≡ lookup (λ k. bytes_eq q (f k)) es
 looked_up f q [] = refl
 looked_up f q (e ∷ es) = ap (λ (r : Option ℕ). cond (bytes_eq q (f e.0)) (Some e.1) r) (looked_up f q es)
 
 -- a new name goes last
-pub put_last : {K : Type 0} (f : K → Text) (k : K) (place : ℕ) (es : List (K × ℕ)) → is_some (place_in (map (λ e. (f e.0, e.1)) es) (f k)) ≡ false
-    → map (λ e. (f e.0, e.1)) (insert_entry (λ a b. bytes_eq (f a) (f b)) es k place) ≡ map (λ e. (f e.0, e.1)) es ++ (f k, place) ∷ []
+pub put_last : {K : Type 0} (f : K → Text) (k : K) (place : ℕ) (es : List (K × ℕ)) → is_some (place_in (seen f es) (f k)) ≡ false
+    → seen f (insert_entry (λ a b. bytes_eq (f a) (f b)) es k place) ≡ seen f es ++ (f k, place) ∷ []
 put_last f k place [] none = refl
-put_last {K} f k place (e ∷ es) none = by (bytes_eq (f k) (f e.0)) none
+put_last {K} f k place (e ∷ es) none = by (bytes_eq (f k) (f e.0)) none (λ h. put_last f k place es h)
   where
-    by : (b : Bool) → is_some (cond b (Some e.1) (place_in (map (λ e. (f e.0, e.1)) es) (f k))) ≡ false
-        → map (λ e. (f e.0, e.1)) (cond b ((e.0, place) ∷ es) (e ∷ insert_entry (λ a b. bytes_eq (f a) (f b)) es k place)) ≡ (f e.0, e.1) ∷ (map (λ e. (f e.0, e.1)) es ++ (f k, place) ∷ [])
-    by true h = cc
-    by false h = ap (λ (l : Entries). (f e.0, e.1) ∷ l) (put_last f k place es h)
+    by : (b : Bool) → is_some (cond b (Some e.1) (place_in (seen f es) (f k))) ≡ false
+        → (is_some (place_in (seen f es) (f k)) ≡ false
+        → seen f (insert_entry (λ a b. bytes_eq (f a) (f b)) es k place) ≡ seen f es ++ (f k, place) ∷ [])
+        → seen f (cond b ((e.0, place) ∷ es) (e ∷ insert_entry (λ a b. bytes_eq (f a) (f b)) es k place)) ≡ (f e.0, e.1) ∷ (seen f es ++ (f k, place) ∷ [])
+    by true h later = cc
+    by false h later = ap (λ (l : Entries). (f e.0, e.1) ∷ l) (later h)
 
 module _ (table : Entries) (name : Text) (place : ℕ) where
   pub name_kept : is_some (place_in table name) ≡ true → table ≡ with_name table name place
@@ -40,6 +45,13 @@ module _ (table : Entries) (name : Text) (place : ℕ) where
 
   pub name_new : is_some (place_in table name) ≡ false → table ++ (name, place) ∷ [] ≡ with_name table name place
   name_new none = sym (ap (λ (b : Bool). cond b table (table ++ (name, place) ∷ [])) none)
+
+-- a new name goes into the map's entries
+pub put_in : {K : Type 0} (f : K → Text) (k : K) (name : Text) (place : ℕ) (es new : List (K × ℕ)) (table : Entries) → seen f es ≡ table → f k ≡ name → is_some (place_in table name) ≡ false
+    → new ≡ insert_entry (λ a b. bytes_eq (f a) (f b)) es k place → seen f new ≡ with_name table name place
+put_in f k name place es new table is_table is_name none is_new =
+    let absent : is_some (place_in (seen f es) (f k)) ≡ false = (λ i. is_some (place_in (is_table i) (is_name i))) ∙ none in
+    ap (seen f) is_new ∙ put_last f k place es absent ∙ (λ i. is_table i ++ (is_name i, place) ∷ []) ∙ name_new table name place none
 
 -- ---- look-ups in a table that grows
 
@@ -53,11 +65,12 @@ some_none (Some place) = refl
 
 pushed : (table : Entries) (name q : Text) (place : ℕ) → place_in (table ++ (name, place) ∷ []) q ≡ first_some (place_in table q) (cond (bytes_eq q name) (Some place) None)
 pushed [] name q place = refl
-pushed (e ∷ es) name q place = by (bytes_eq q e.0)
+pushed (e ∷ es) name q place = by (bytes_eq q e.0) (pushed es name q place)
   where
-    by : (b : Bool) → cond b (Some e.1) (place_in (es ++ (name, place) ∷ []) q) ≡ first_some (cond b (Some e.1) (place_in es q)) (cond (bytes_eq q name) (Some place) None)
-    by true = refl
-    by false = pushed es name q place
+    by : (b : Bool) → place_in (es ++ (name, place) ∷ []) q ≡ first_some (place_in es q) (cond (bytes_eq q name) (Some place) None)
+        → cond b (Some e.1) (place_in (es ++ (name, place) ∷ []) q) ≡ first_some (cond b (Some e.1) (place_in es q)) (cond (bytes_eq q name) (Some place) None)
+    by true later = refl
+    by false later = later
 
 named : (table : Entries) (name q : Text) (place : ℕ) → place_in (with_name table name place) q ≡ first_some (place_in table q) (cond (bytes_eq q name) (Some place) None)
 named table name q place = by (place_in table name) refl

@@ -1,8 +1,12 @@
 -- The acts on an input.
-use Rattle.std.proofs.Common.{◌≡◌, ℕ, suc, ◌+◌, ◌^◌, ◌<◌, ◌≤◌, List, [], ◌∷◌, length, Bool, true, false, cond, refl, sym, ap, ◌∙◌, subst, arith}
-use Rattle.std.specs.Prelude.{Option, Some, None, Result, Ok, Err, IfSome, nat_lt}
-use Rattle.std.specs.List.{position_from}
+use Rattle.std.proofs.Common.{◌≡◌, ℕ, suc, ◌+◌, ◌^◌, ◌<◌, ◌≤◌, List, [], ◌∷◌, length, get_or, Bool, true, false, true≢false, cond, refl, sym, ap, ◌∙◌, subst, arith}
+use Rattle.std.specs.Prelude.{Option, Some, None, Result, Ok, Err, IfSome, nat_lt, slice_get}
+use Rattle.std.specs.List.{position_from, list_all}
+use Rattle.std.specs.Option.{option_map, option_map_or}
 use Rattle.std.proofs.lemmas.Bool.{lt-ltb, ltb-true}
+use Rattle.std.proofs.lemmas.List.Folds.{list_all_at}
+use Rattle.std.proofs.lemmas.Option.{slice_get-map, slice_get-get_or}
+use Rattle.rtl_ir.specs.WithinDesign.{port_fits}
 use Rattle.std.proofs.lemmas.Nat.{pow_pos}
 use Rattle.std.proofs.Math.Nat.{mod-eq_of_lt, mod-lt}
 use Rattle.vs_base.specs.Number.{kept}
@@ -19,16 +23,38 @@ use Rattle.stimulus.specs.Stimulus.{StimPort, stim_port, stim_ports, is_input, p
 
 below : (name : Text) (k : ℕ) (vars : List Var) (ports : List Port) (place : ℕ) → position_from (is_input name) k (stim_ports vars ports) ≡ Some place → place < k + length ports
 below name k vars [] place at = cc
-below name k vars (p ∷ ports) place at = by (is_input name (stim_port vars p)) at
+below name k vars (p ∷ ports) place at = by (is_input name (stim_port vars p)) at (λ h. below name (k + 1) vars ports place h)
   where
-    by : (b : Bool) → cond b (Some k) (position_from (is_input name) (k + 1) (stim_ports vars ports)) ≡ Some place → place < k + suc (length ports)
-    by true h = let same : k ≡ place = cc in omega arith
-    by false h = let less : place < k + 1 + length ports = below name (k + 1) vars ports place h in omega arith
+    by : (b : Bool) → cond b (Some k) (position_from (is_input name) (k + 1) (stim_ports vars ports)) ≡ Some place
+        → (position_from (is_input name) (k + 1) (stim_ports vars ports) ≡ Some place → place < k + 1 + length ports) → place < k + suc (length ports)
+    by true h later = let same : k ≡ place = cc in omega arith
+    by false h later = let less : place < k + 1 + length ports = later h in omega arith
 
 -- a place that is found is that of a port
 pub place_within : (vars : List Var) (ports : List Port) (name : Text) (r : Option ℕ) → r ≡ place_of (stim_ports vars ports) name → IfSome r (λ place. place < length ports)
 place_within vars ports name None at = tt
 place_within vars ports name (Some place) at = let less : place < 0 + length ports = below name 0 vars ports place (sym at) in omega arith
+
+-- ---- the width of a port
+
+each_fits : {A : Type 0} (p : A → Bool) (xs : List A) (i : ℕ) (d : A) → i < length xs → list_all p xs ≡ true → p (get_or xs i d) ≡ true
+each_fits p xs i d h all = by (p (get_or xs i d)) refl
+  where
+    by : (b : Bool) → p (get_or xs i d) ≡ b → b ≡ true
+    by true e = refl
+    by false e = absurd (true≢false (sym all ∙ list_all_at p xs i d h e))
+
+module _ (vars : List Var) (ports : List Port) (place : ℕ) (d : Port) (within : place < length ports) where
+  port_at : slice_get (stim_ports vars ports) place ≡ Some (stim_port vars (get_or ports place d))
+  port_at = slice_get-map (stim_port vars) ports place ∙ ap (option_map (stim_port vars)) (slice_get-get_or ports place d within)
+
+  -- a port has the width of its variable
+  pub width_is : (v : Var) → list_all (port_fits (length vars)) ports ≡ true → (get_or vars (get_or ports place d).var v).width ≡ width_at (stim_ports vars ports) place
+  width_is v fit =
+      let known : (get_or ports place d).var < length vars = ltb-true (get_or ports place d).var (length vars) (each_fits (port_fits (length vars)) ports place d within fit) in
+      let of_var : option_map_or (λ v. v.width) (slice_get vars (get_or ports place d).var) 1 ≡ (get_or vars (get_or ports place d).var v).width
+      = ap (λ (o : Option Var). option_map_or (λ v. v.width) o 1) (slice_get-get_or vars (get_or ports place d).var v known) in
+      sym (ap (λ (o : Option StimPort). option_map_or (λ p. p.width) o 1) port_at ∙ of_var)
 
 -- ---- the act of a set
 

@@ -23,11 +23,12 @@ and_left false b h = h
 
 input_from : (name : Text) (k : ℕ) (ports : List StimPort) (place : ℕ) → position_from (is_input name) k ports ≡ Some place → (j : ℕ) × (place ≡ k + j) × (is_input_at ports j ≡ true)
 input_from name k [] place h = cc
-input_from name k (p ∷ ports) place h = by (is_input name p) refl h
+input_from name k (p ∷ ports) place h = by (is_input name p) refl h (λ later. input_from name (k + 1) ports place later)
   where
-    by : (b : Bool) → is_input name p ≡ b → cond b (Some k) (position_from (is_input name) (k + 1) ports) ≡ Some place → (j : ℕ) × (place ≡ k + j) × (is_input_at (p ∷ ports) j ≡ true)
-    by true e h = let same : k ≡ place = cc in (zero, omega (arith, same), and_left p.input (bytes_eq name p.name) e)
-    by false e h = let r = input_from name (k + 1) ports place h in (suc r.0, omega (arith, r.1), r.2)
+    by : (b : Bool) → is_input name p ≡ b → cond b (Some k) (position_from (is_input name) (k + 1) ports) ≡ Some place
+        → (position_from (is_input name) (k + 1) ports ≡ Some place → (j : ℕ) × (place ≡ k + 1 + j) × (is_input_at ports j ≡ true)) → (j : ℕ) × (place ≡ k + j) × (is_input_at (p ∷ ports) j ≡ true)
+    by true e h later = let same : k ≡ place = cc in (zero, omega (arith, same), and_left p.input (bytes_eq name p.name) e)
+    by false e h later = let r = later h in (suc r.0, omega (arith, r.1), r.2)
 
 pub place_is_input : (ports : List StimPort) (name : Text) (place : ℕ) → place_of ports name ≡ Some place → is_input_at ports place ≡ true
 place_is_input ports name place h =

@@ -183,7 +183,8 @@ fn line_act(
 
 // How often an act evaluates the design.
 fn evals_of(act: &Act) -> u64
-    ensures { result ≡ evals_of act.now }
+    ensures value { result ≡ evals_of act.now }
+    ensures few { result < 2 ^ 33 }
 {
     match act {
         Act::Set { .. } => 0,

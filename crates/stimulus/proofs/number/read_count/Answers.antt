@@ -1,5 +1,5 @@
 use Rattle.std.proofs.Common.{◌≡◌, ◌<◌, ◌+◌, ◌*◌, arith}
-use Rattle.stimulus.proofs.Counts.{count_fits, count_read, counted_small}
+use Rattle.stimulus.proofs.Counts.{count_fits, count_read, counting_starts}
 use Rattle.stimulus.proofs.number.read_count.Goals as goal
 
 pub overflow_mul-value : goal.overflow_mul-value
@@ -17,3 +17,6 @@ pub digits-preserved : goal.digits-preserved
 digits-preserved c =
     rw c.from.ensures
     (count_read c.args.text.now c.digits.rest.now c.digits.value c.in-Some.d c.in-len1-up.len_at_least c.digits.invariant c.in-Some.ensures.digit.0 c.in-Some.ensures.digit.1 c.in-Some.ensures.small)
+
+pub digits-init : goal.digits-init
+digits-init c = counting_starts c.args.text.now c.if-text-gt7.false
