@@ -1,5 +1,5 @@
 -- The acts on an input.
-use Rattle.std.proofs.Common.{◌≡◌, ℕ, suc, ◌+◌, ◌^◌, ◌<◌, ◌≤◌, List, [], ◌∷◌, length, get_or, Bool, true, false, true≢false, cond, refl, sym, ap, ◌∙◌, subst, arith}
+use Rattle.std.proofs.Common.{◌≡◌, ℕ, suc, ◌+◌, ◌^◌, ◌<◌, List, [], ◌∷◌, length, get_or, Bool, true, false, true≢false, cond, refl, sym, ap, ◌∙◌, subst, arith}
 use Rattle.std.specs.Prelude.{Option, Some, None, Result, Ok, Err, IfSome, nat_lt, slice_get}
 use Rattle.std.specs.List.{position_from, list_all}
 use Rattle.std.specs.Option.{option_map, option_map_or}
@@ -11,11 +11,11 @@ use Rattle.std.proofs.lemmas.Nat.{pow_pos}
 use Rattle.std.proofs.Math.Nat.{mod-eq_of_lt, mod-lt}
 use Rattle.vs_base.specs.Number.{kept}
 use Rattle.vs_base.specs.declared.act.Act.{Act}
-use Rattle.vs_base.specs.declared.act.Act.TheVariants.{Set, Clock}
+use Rattle.vs_base.specs.declared.act.Act.TheVariants.{Set}
 use Rattle.rtl_ir.specs.declared.design.Var.{Var}
 use Rattle.rtl_ir.specs.declared.design.Port.{Port}
 use Rattle.stimulus.specs.declared.fault.StimFault.{StimFault}
-use Rattle.stimulus.specs.declared.fault.StimFault.TheVariants.{BadLine, UnknownInput, ValueTooWide}
+use Rattle.stimulus.specs.declared.fault.StimFault.TheVariants.{BadLine, ValueTooWide}
 use Rattle.stimulus.specs.StimulusText.{Text, is_hex, hex_value, is_count, count_value}
 use Rattle.stimulus.specs.Stimulus.{StimPort, stim_port, stim_ports, is_input, place_of, width_at, set_input, set_act, clock_input, clock_act}
 

@@ -1,6 +1,6 @@
 -- The loop over the lines.
 use Rattle.std.proofs.Common.{◌≡◌, ℕ, ◌+◌, ◌<◌, ◌≤◌, List, [], ◌∷◌, ◌++◌, Bool, true, false, cond, refl, sym, ap, ◌∙◌, arith, append-nil, append_assoc}
-use Rattle.std.specs.Prelude.{Option, Some, None, Result, Ok, Err, nat_le}
+use Rattle.std.specs.Prelude.{Option, Some, Result, Ok, Err, nat_le}
 use Rattle.std.proofs.lemmas.Bool.{le-leb, leb-true}
 use Rattle.vs_base.specs.declared.act.Act.{Act}
 use Rattle.vs_base.specs.declared.limits.TheConstants.{EVALS}

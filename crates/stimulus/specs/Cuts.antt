@@ -1,5 +1,5 @@
 -- The pieces into which a text is cut.
-use Rattle.std.specs.Prelude.{◌≡◌, ◌<◌, ℕ, List, [], ◌∷◌, length, Bool, not, ◌==◌, if◌then◌else◌}
+use Rattle.std.specs.Prelude.{◌≡◌, ◌<◌, ℕ, [], ◌∷◌, length, Bool, not, ◌==◌, if◌then◌else◌}
 use Rattle.stimulus.specs.StimulusText.{Text, without_returns, lines_of, words_of, is_space}
 
 abbrev pub is_inside : ℕ → Bool

@@ -1,17 +1,16 @@
 -- Laws of what a stimulus says, for the crates above.
-use Rattle.std.specs.Prelude.{◌≡◌, ℕ, ◌+◌, ◌^◌, ◌≤◌, List, [], ◌∷◌, ◌++◌, Option, Some, None, Result, Ok, Err, Bool, true, false, ◌&&◌, ◌==◌, cond, nat_le, nat_lt, codes, slice_get}
-use Rattle.std.specs.Option.{option_map_or}
+use Rattle.std.specs.Prelude.{◌≡◌, ℕ, ◌+◌, ◌^◌, ◌≤◌, List, [], ◌∷◌, Option, Some, None, Result, Ok, Err, Bool, true, false, ◌&&◌, cond, nat_le, nat_lt, codes}
 use Rattle.std.specs.List.{position_from, list_all}
 use Rattle.std.specs.Str.{bytes_eq}
-use Rattle.std.proofs.Common.{refl, sym, ap, ◌∙◌, subst, arith, zero, suc}
-use Rattle.std.proofs.lemmas.Bool.{false≢true, leb-true, ltb-true, lt-ltb, eq-eqb}
+use Rattle.std.proofs.Common.{refl, ap, ◌∙◌, subst, arith, zero, suc}
+use Rattle.std.proofs.lemmas.Bool.{leb-true, ltb-true, eq-eqb}
 use Rattle.std.proofs.Math.Nat.{mod-eq_of_lt}
 use Rattle.vs_base.specs.Number.{kept}
 use Rattle.vs_base.specs.declared.act.Act.{Act}
 use Rattle.vs_base.specs.declared.act.Act.TheVariants.{Set, Eval, Clock}
 use Rattle.vs_base.specs.declared.limits.TheConstants.{EVALS}
 use Rattle.stimulus.specs.declared.fault.StimFault.{StimFault}
-use Rattle.stimulus.specs.declared.fault.StimFault.TheVariants.{BadLine, UnknownInput, ValueTooWide, TooManyEvals}
+use Rattle.stimulus.specs.declared.fault.StimFault.TheVariants.{BadLine, ValueTooWide, TooManyEvals}
 use Rattle.stimulus.specs.StimulusText.{Text, without_returns, lines_of, words_of, begins_comment, is_hex, hex_value, is_count, count_value}
 use Rattle.stimulus.specs.Stimulus.{StimPort, is_input, place_of, width_at, set_input, set_act, clock_input, clock_act, act_of, line_act, evals_of, followed_by, after_line, lines_acts, evals_in, stim_acts, is_input_at, act_fits}
 

@@ -1,3 +1,5 @@
+ghost use Rattle.std.specs.Prelude.{◌≤◌};
+
 use crate::{StimFault, read_stim};
 use rtl_ir::{Design, FlatScope, Port, Var};
 use sqlite_items::Items;

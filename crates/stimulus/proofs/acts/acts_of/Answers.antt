@@ -1,6 +1,6 @@
-use Rattle.std.proofs.Common.{◌≡◌, ◌≤◌, ◌<◌, ◌+◌, length, arith}
+use Rattle.std.proofs.Common.{arith}
 use Rattle.stimulus.specs.Stimulus.{design_ports}
-use Rattle.stimulus.proofs.Turns.{starts, act_added}
+use Rattle.stimulus.proofs.Turns.{starts}
 use Rattle.stimulus.proofs.acts.acts_of.Goals as goal
 
 pub lines-init : goal.lines-init
