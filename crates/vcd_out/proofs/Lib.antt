@@ -1,0 +1,8 @@
+pub mod Codes
+pub mod Declared
+pub mod Digits
+mod Examples
+pub mod Keys
+pub mod Places
+pub mod Segments
+pub mod Walks

@@ -1,0 +1,4 @@
+use Rattle.vcd_out.proofs.head.put_values.Goals as goal
+
+pub returns : goal.returns
+returns c = ?

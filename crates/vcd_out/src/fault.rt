@@ -1,0 +1,6 @@
+use thiserror::Error;
+
+/// There was no memory left.
+#[derive(Clone, Copy, Debug, PartialEq, Eq, Error)]
+#[error("out of memory")]
+pub struct NoMemory;
