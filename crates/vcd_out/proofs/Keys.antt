@@ -22,7 +22,7 @@ outers_first n (s ∷ scopes) h =
     let parts = and_parts (parent_is_below n s.parent) (parents_first (suc n) scopes) h in
     ap (λ b. b && are_first (suc n) (outers_of scopes)) (le-leb (outer_of s.parent) n (outer_low n s.parent parts.0)) ∙ outers_first (suc n) scopes parts.1
 
-pub outers_below : (n : ℕ) (scopes : List FlatScope) → parents_first n scopes ≡ true → (k d : ℕ) → k < length (outers_of scopes) → get_or (outers_of scopes) k d < n + (length scopes + 1)
+outers_below : (n : ℕ) (scopes : List FlatScope) → parents_first n scopes ≡ true → (k d : ℕ) → k < length (outers_of scopes) → get_or (outers_of scopes) k d < n + (length scopes + 1)
 outers_below n [] h k d within = absurd (omega arith)
 outers_below n (s ∷ scopes) h zero d within =
     let low : outer_of s.parent ≤ n = outer_low n s.parent (and_parts (parent_is_below n s.parent) (parents_first (suc n) scopes) h).0 in
@@ -30,3 +30,6 @@ outers_below n (s ∷ scopes) h zero d within =
 outers_below n (s ∷ scopes) h (suc k) d within =
     let less = outers_below (suc n) scopes (and_parts (parent_is_below n s.parent) (parents_first (suc n) scopes) h).1 k d (omega arith) in
     omega arith
+
+pub all_outers_below : (scopes : List FlatScope) → parents_first 0 scopes ≡ true → (k d : ℕ) → k < length (outers_of scopes) → get_or (outers_of scopes) k d < length scopes + 1
+all_outers_below scopes h k d within = let less = outers_below 0 scopes h k d within in omega arith

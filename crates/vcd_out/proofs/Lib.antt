@@ -1,3 +1,5 @@
+pub mod Added
+pub mod Changed
 pub mod Codes
 pub mod Declared
 pub mod Digits
@@ -5,4 +7,5 @@ mod Examples
 pub mod Keys
 pub mod Places
 pub mod Segments
+pub mod Tails
 pub mod Walks
