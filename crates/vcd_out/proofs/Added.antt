@@ -1,5 +1,5 @@
 -- Texts that are added one after another.
-use Rattle.std.proofs.Common.{◌≡◌, ℕ, List, ◌++◌, sym, ◌∙◌, ap, append_assoc}
+use Rattle.std.proofs.Common.{◌≡◌, ℕ, List, ◌++◌, ◌∙◌, ap, append_assoc}
 use Rattle.std.specs.Prelude.{Result, Ok, Err, OnOk, is_ok, if◌then◌else◌}
 
 pub third_added : {A E : Type 0} (r : Result A E) (t0 t1 t2 t3 a b z : List ℕ) → t1 ≡ t0 ++ a → t2 ≡ t1 ++ b → OnOk r (t3 ≡ t2 ++ z) → OnOk r (t3 ≡ t0 ++ (a ++ (b ++ z)))

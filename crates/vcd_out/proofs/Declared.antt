@@ -1,6 +1,5 @@
 -- The lines of a scope's variables, by their links.
 use Rattle.std.proofs.Common.{◌≡◌, ℕ, ◌<◌, List, [], ◌∷◌, ◌++◌, length, map, get_or, Option, Some, None, sym, ◌∙◌, ap, subst, arith, append_assoc}
-use Rattle.std.proofs.lemmas.List.{length-map}
 use Rattle.vcd_out.specs.declared.layout.Line.{Line}
 use Rattle.vcd_out.specs.declared.layout.Line.TheVariants.{Opens, Declares}
 use Rattle.vcd_out.specs.Places.{IsLinked, places_from}

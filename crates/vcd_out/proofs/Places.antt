@@ -1,5 +1,5 @@
 -- Chains of places that have one key.
-use Rattle.std.proofs.Common.{◌≡◌, ℕ, zero, suc, ◌+◌, ◌<◌, ◌≤◌, List, [], ◌∷◌, length, set, get_or, take, drop, Option, Some, None, Bool, true, false, cond, eqb, leb, replicate, refl, sym, inl, inr, ◌∙◌, ◌≢◌, ap, subst, arith}
+use Rattle.std.proofs.Common.{◌≡◌, ℕ, zero, suc, ◌+◌, ◌<◌, ◌≤◌, List, [], ◌∷◌, length, set, get_or, drop, Option, Some, None, Bool, true, false, cond, eqb, replicate, refl, sym, inl, inr, ◌∙◌, ap, subst, arith}
 use Rattle.std.proofs.Math.Seq.{drop-cons}
 use Rattle.std.proofs.lemmas.List.{drop_all, get_or_past, get_or-replicate, length-replicate, length-set, length-drop, get_or-set_same, get_or-set_other}
 use Rattle.std.proofs.lemmas.Bool.{eqb-true, eq-eqb}

@@ -1,13 +1,13 @@
 -- The walk over scopes gives their lines.
-use Rattle.std.proofs.Common.{◌≡◌, ℕ, zero, suc, ◌+◌, ◌<◌, ◌≤◌, List, [], ◌∷◌, ◌++◌, map, length, get_or, drop, Option, Some, None, Bool, true, false, ◌&&◌, cond, eqb, leb, refl, sym, ◌∙◌, ◌≢◌, ap, subst, arith, append_assoc, append-nil}
+use Rattle.std.proofs.Common.{◌≡◌, ℕ, zero, suc, ◌+◌, ◌<◌, ◌≤◌, List, [], ◌∷◌, ◌++◌, map, length, get_or, drop, Option, Some, None, Bool, true, false, cond, eqb, leb, refl, sym, ◌∙◌, ap, subst, arith, append_assoc, append-nil}
 use Rattle.std.specs.List.{fold}
 use Rattle.std.proofs.Math.Seq.{drop-cons}
-use Rattle.std.proofs.lemmas.List.{length-append, length-map}
+use Rattle.std.proofs.lemmas.List.{length-append}
 use Rattle.std.proofs.lemmas.List.Sums.{fold-append}
 use Rattle.std.proofs.lemmas.Bool.{eqb-true, eq-eqb, and_parts, leb-true}
 use Rattle.std.proofs.lemmas.Bool.Decides.{nat_tests}
 use Rattle.vcd_out.specs.declared.layout.Line.{Line}
-use Rattle.vcd_out.specs.declared.layout.Line.TheVariants.{Opens, Declares, Closes}
+use Rattle.vcd_out.specs.declared.layout.Line.TheVariants.{Opens, Closes}
 use Rattle.vcd_out.specs.Places.{IsLinked, places_from, place_from, are_first}
 use Rattle.vcd_out.specs.Layout.{declared_line, scope_lines}
 use Rattle.vcd_out.proofs.Places.{IsBelow, here, rest}

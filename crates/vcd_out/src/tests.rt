@@ -62,11 +62,11 @@ fn small(alloc: Global) -> Result<Design, Fail> {
 }
 
 // A value for each variable, as wide as it is.
-fn values(alloc: Global, design: &Design, value: u128) -> Result<Vec<Bits>, Fail>
-    ensures { IfOk result (λ values. widths_of values.items ≡ widths_of_vars design.now.vars) }
+fn values(alloc: Global, vars: &[Var], value: u128) -> Result<Vec<Bits>, Fail>
+    ensures { IfOk result (λ values. widths_of values.items ≡ widths_of_vars vars.now) }
 {
     let mut values = Vec::new(alloc);
-    for var in design.vars.as_slice() {
+    for var in vars {
         values.push(Bits::new(var.width, value))?;
     }
     Ok(values)
@@ -105,8 +105,8 @@ fn the_text_follows_the_scopes(rt: HostRuntime) -> Result<(), Fail> {
 fn changes_are_told(rt: HostRuntime) -> Result<(), Fail> {
     let design = small(rt.alloc())?;
     let mut buf = VcdBuf::for_design(rt.alloc(), &design)?;
-    let old = values(rt.alloc(), &design, 1)?;
-    let new = values(rt.alloc(), &design, 3)?;
+    let old = values(rt.alloc(), design.vars.as_slice(), 1)?;
+    let new = values(rt.alloc(), design.vars.as_slice(), 3)?;
     let told = buf.change(&design, old.as_slice(), new.as_slice(), 1);
     assert_eq!(rt; told, b"#1\nb00000011 !\nb011 \"\n".as_slice());
     let told = buf.change(&design, new.as_slice(), new.as_slice(), u64::MAX);

@@ -1,4 +1,4 @@
-use Rattle.std.proofs.Common.{◌≡◌, ◌≤◌, ◌+◌, ◌++◌, arith}
+use Rattle.std.proofs.Common.{◌++◌, arith}
 use Rattle.std.specs.Option.{option_copied}
 use Rattle.vcd_out.specs.Changes.{changes}
 use Rattle.vcd_out.proofs.Changed.{one_fewer, change_added, room_left}

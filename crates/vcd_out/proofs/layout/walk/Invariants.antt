@@ -1,4 +1,4 @@
-use Rattle.std.proofs.Common.{◌≡◌, ℕ, List, ◌++◌, length}
+use Rattle.std.proofs.Common.{◌≡◌, ◌++◌, length}
 use Rattle.vcd_out.specs.Layout.{scope_lines}
 use Rattle.vcd_out.proofs.Places.{IsBelow}
 use Rattle.vcd_out.proofs.Walks.{to_come}

@@ -1,5 +1,5 @@
-use Rattle.std.proofs.Common.{◌≡◌, ◌≤◌, ◌<◌, ◌+◌, ◌-◌, ◌/◌, ◌^◌, ◌∙◌, length, arith, refl}
-use Rattle.vcd_out.proofs.Codes.{code_after, code_starts, code_goes, left_of_start, left_of_next}
+use Rattle.std.proofs.Common.{◌<◌, ◌-◌, ◌/◌, ◌^◌, ◌∙◌, arith, refl}
+use Rattle.vcd_out.proofs.Codes.{code_starts, code_goes, left_of_start, left_of_next}
 use Rattle.vcd_out.proofs.value.put_code.Goals as goal
 
 pub digits-init : goal.digits-init

@@ -1,4 +1,4 @@
-use Rattle.std.proofs.Common.{◌≡◌, ◌+◌, ◌-◌, ◌∙◌, suc, arith}
+use Rattle.std.proofs.Common.{◌-◌, ◌∙◌, arith}
 use Rattle.vcd_out.proofs.Digits.{digit_added}
 use Rattle.vcd_out.proofs.value.put_digits.Goals as goal
 

@@ -1,4 +1,4 @@
-use Rattle.std.proofs.Common.{◌≡◌, ◌<◌, ◌-◌, ◌∙◌, suc, get_or, length, Some, None, arith}
+use Rattle.std.proofs.Common.{◌≡◌, ◌<◌, ◌-◌, ◌∙◌, get_or, length, Some, None, arith}
 use Rattle.std.proofs.lemmas.List.{get_or_default, length-set}
 use Rattle.vcd_out.proofs.Places.{link_step}
 use Rattle.vcd_out.proofs.links.Links.new.Goals as goal
