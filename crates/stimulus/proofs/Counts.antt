@@ -36,13 +36,6 @@ next_fits text more value c d r small =
     let e : suc (7 - length (c ∷ more)) ≡ 7 - length more = omega arith in
     subst (λ k. value * 10 + d < 10 ^ k) e (next_small (7 - length (c ∷ more)) value d r.small small)
 
-pub counted_small : (text rest : List ℕ) (value : ℕ) → Counting text rest value → value < 10000000
-counted_small text rest value r =
-    let most : 7 - length rest ≤ 7 = omega arith in
-    let in_seven : 10 ^ (7 - length rest) ≤ 10 ^ 7 = pow-le-pow_right (lit< tt) most in
-    let small = r.small in
-    omega arith
-
 -- one digit more has at most seven digits
 pub count_fits : (text rest : List ℕ) (value d : ℕ) → 1 ≤ length rest → Counting text rest value → d < 10 → value * 10 + d < 10000000
 count_fits text [] value d one r small = absurd (omega arith)

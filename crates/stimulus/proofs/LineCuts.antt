@@ -148,7 +148,3 @@ untrimmed (c ∷ []) h = by_test (c == 13) refl
     by_test true is = absurd (h [] (ap (λ (n : ℕ). n ∷ []) (eqb-true c 13 is)))
     by_test false is = refl
 untrimmed (c ∷ d ∷ cs) h = ap (λ (l : List ℕ). c ∷ l) (untrimmed (d ∷ cs) (λ before e. h (c ∷ before) (ap (λ (l : List ℕ). c ∷ l) e)))
-
-pub no_lines : (text : List ℕ) → length text ≡ 0 → lines_of (without_returns text) ≡ []
-no_lines [] h = refl
-no_lines (c ∷ cs) h = absurd (omega arith)

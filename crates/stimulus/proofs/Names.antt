@@ -1,10 +1,10 @@
 -- The table of the inputs' names.
-use Rattle.std.proofs.Common.{◌≡◌, ℕ, ◌+◌, ◌<◌, ◌-◌, ◌≤◌, List, [], ◌∷◌, ◌++◌, length, map, get_or, take, drop, Bool, true, false, cond, refl, sym, ap, ◌∙◌, subst, arith}
+use Rattle.std.proofs.Common.{◌≡◌, ℕ, ◌+◌, ◌-◌, ◌≤◌, List, [], ◌∷◌, ◌++◌, length, map, get_or, take, drop, Bool, true, false, cond, refl, sym, ap, ◌∙◌, subst, arith}
 use Rattle.std.specs.Prelude.{◌&&◌, Option, Some, None, is_some, nat_lt}
 use Rattle.std.specs.List.{position_from, list_all}
 use Rattle.std.specs.Map.{lookup}
 use Rattle.std.specs.Str.{bytes_eq}
-use Rattle.std.proofs.lemmas.Bool.{false≢true, ltb-true}
+use Rattle.std.proofs.lemmas.Bool.{and_parts}
 use Rattle.std.proofs.lemmas.Slice.Eq.{bytes_eq-Decides}
 use Rattle.indexmap.specs.IndexMap.{insert_entry}
 use Rattle.rtl_ir.specs.declared.design.Var.{Var}
@@ -39,10 +39,7 @@ put_last {K} f k place (e ∷ es) none = by (bytes_eq (f k) (f e.0)) none (λ h.
     by false h later = ap (λ (l : Entries). (f e.0, e.1) ∷ l) (later h)
 
 module _ (table : Entries) (name : Text) (place : ℕ) where
-  pub name_kept : is_some (place_in table name) ≡ true → table ≡ with_name table name place
-  name_kept there = sym (ap (λ (b : Bool). cond b table (table ++ (name, place) ∷ [])) there)
-
-  pub name_new : is_some (place_in table name) ≡ false → table ++ (name, place) ∷ [] ≡ with_name table name place
+  name_new : is_some (place_in table name) ≡ false → table ++ (name, place) ∷ [] ≡ with_name table name place
   name_new none = sym (ap (λ (b : Bool). cond b table (table ++ (name, place) ∷ [])) none)
 
 -- a new name goes into the map's entries
@@ -108,11 +105,6 @@ grown table p ps q place = ap (λ (r : Option ℕ). first_some r (position_from 
 abbrev pub Grows : List Var → List Port → Entries → ℕ → List Port → Type 0
 Grows vars ports table place rest = (name : Text) → first_some (place_in table name) (position_from (is_input name) place (stim_ports vars rest)) ≡ place_of (stim_ports vars ports) name
 
-pub all_grown : (vars : List Var) (ports : List Port) (table : Entries) (place : ℕ) (rest : List Port) → length rest < 1 → Grows vars ports table place rest
-    → (name : Text) → place_in table name ≡ place_of (stim_ports vars ports) name
-all_grown vars ports table place [] none h name = some_none (place_in table name) ∙ h name
-all_grown vars ports table place (p ∷ rest) none h name = absurd (omega arith)
-
 pub port_grown : (vars : List Var) (ports : List Port) (table new : Entries) (place next : ℕ) (rest : List Port) (d : Port) → 1 ≤ length rest
     → new ≡ with_port table (stim_port vars (get_or rest 0 d)) place → next ≡ place + 1 → Grows vars ports table place rest
     → Grows vars ports new next (take (length rest - 1) (drop 1 rest))
@@ -121,18 +113,6 @@ port_grown vars ports table new place next (p ∷ rest) d one is_new is_next h =
     (λ i. first_some (place_in (is_new i) name) (position_from (is_input name) (is_next i) (stim_ports vars (tail_is p rest i))))
     ∙ grown table (stim_port vars p) (stim_ports vars rest) name place ∙ h name
 
-and_left : (a b : Bool) → (a && b) ≡ true → a ≡ true
-and_left true b h = refl
-and_left false b h = h
-
-and_right : (a b : Bool) → (a && b) ≡ true → b ≡ true
-and_right true b h = h
-and_right false b h = absurd (false≢true h)
-
-pub first_fits : (n : ℕ) (rest : List Port) (d : Port) → 1 ≤ length rest → list_all (port_fits n) rest ≡ true → (get_or rest 0 d).var < n
-first_fits n [] d one h = absurd (omega arith)
-first_fits n (p ∷ rest) d one h = ltb-true p.var n (and_left (nat_lt p.var n) (list_all (port_fits n) rest) h)
-
 pub rest_fit : (n : ℕ) (rest : List Port) → 1 ≤ length rest → list_all (port_fits n) rest ≡ true → list_all (port_fits n) (take (length rest - 1) (drop 1 rest)) ≡ true
 rest_fit n [] one h = absurd (omega arith)
-rest_fit n (p ∷ rest) one h = subst (λ (l : List Port). list_all (port_fits n) l ≡ true) (sym (tail_is p rest)) (and_right (nat_lt p.var n) (list_all (port_fits n) rest) h)
+rest_fit n (p ∷ rest) one h = subst (λ (l : List Port). list_all (port_fits n) l ≡ true) (sym (tail_is p rest)) (and_parts (nat_lt p.var n) (list_all (port_fits n) rest) h).1

@@ -3,7 +3,7 @@ use Rattle.std.proofs.Common.{◌≡◌, ℕ, suc, ◌+◌, ◌^◌, ◌<◌, Li
 use Rattle.std.specs.Prelude.{Option, Some, None, Result, Ok, Err, IfSome, nat_lt, slice_get}
 use Rattle.std.specs.List.{position_from, list_all}
 use Rattle.std.specs.Option.{option_map, option_map_or}
-use Rattle.std.proofs.lemmas.Bool.{lt-ltb, ltb-true}
+use Rattle.std.proofs.lemmas.Bool.{false_from_ne_true, lt-ltb, ltb-true}
 use Rattle.std.proofs.lemmas.List.Folds.{list_all_at}
 use Rattle.std.proofs.lemmas.Option.{slice_get-map, slice_get-get_or}
 use Rattle.rtl_ir.specs.WithinDesign.{port_fits}
@@ -58,17 +58,13 @@ module _ (vars : List Var) (ports : List Port) (place : ℕ) (d : Port) (within 
 
 -- ---- the act of a set
 
-wrong_is_false : (b : Bool) → (b ≡ true → ⊥) → b ≡ false
-wrong_is_false true h = absurd (h refl)
-wrong_is_false false h = refl
-
 module _ (ports : List StimPort) (n place width value : ℕ) (is_width : width ≡ width_at ports place) where
   abbrev set_where : Bool → Result (Option Act) StimFault
   set_where b = cond b (Ok (Some (Set place (kept (width_at ports place) value)))) (Err (ValueTooWide n))
 
   pub too_wide : ((kept width value).value ≡ value → ⊥) → Err (ValueTooWide n) ≡ set_input ports n value (Some place)
   too_wide cut =
-      let above : nat_lt value (2 ^ width_at ports place) ≡ false = wrong_is_false (nat_lt value (2 ^ width_at ports place))
+      let above : nat_lt value (2 ^ width_at ports place) ≡ false = false_from_ne_true (nat_lt value (2 ^ width_at ports place))
       (λ h. cut (mod-eq_of_lt (subst (λ (w : ℕ). value < 2 ^ w) (sym is_width) (ltb-true value (2 ^ width_at ports place) h)))) in
       sym (ap set_where above)
 

@@ -2,7 +2,7 @@
 use Rattle.std.proofs.Common.{◌≡◌, ℕ, ◌+◌, ◌<◌, List, [], ◌∷◌, length, take, drop, Bool, true, false, cond, refl, sym, ap, ◌∙◌, subst, arith, suc}
 use Rattle.std.specs.Prelude.{take_while, not}
 use Rattle.std.specs.List.{prefix_len}
-use Rattle.std.proofs.lemmas.Bool.{false≢true}
+use Rattle.std.proofs.lemmas.Bool.{false≢true, not-true}
 use Rattle.std.proofs.lemmas.List.Folds.{length-prefix_len}
 use Rattle.stimulus.specs.StimulusText.{is_space, words_of, begins_word, onto_first}
 use Rattle.stimulus.specs.Cuts.{is_inside, IsFirstWord}
@@ -34,10 +34,6 @@ skip_begins (c ∷ cs) some = by_test (is_space c) refl (skip_begins cs) some
         let n : prefix_len is_space (c ∷ cs) ≡ 0 = ap (λ (b : Bool). cond b (1 + prefix_len is_space cs) 0) is in
         subst (λ (k : ℕ). begins_word (drop k (c ∷ cs)) ≡ true) (sym n) (ap not is)
 
-not_true : (b : Bool) → not b ≡ true → b ≡ false
-not_true true h = absurd (false≢true h)
-not_true false h = refl
-
 ends_none : (cs : List ℕ) → begins_word cs ≡ false → prefix_len is_inside cs ≡ 0
 ends_none [] h = refl
 ends_none (d ∷ ds) h = ap (λ (b : Bool). cond b (1 + prefix_len is_inside ds) 0) h
@@ -48,7 +44,7 @@ words_take [] h = absurd (false≢true h)
 words_take (c ∷ cs) h = by_next (begins_word cs) refl (words_take cs)
   where
     chosen : words_of (c ∷ cs) ≡ cond (begins_word cs) (onto_first c (words_of cs)) ((c ∷ []) ∷ words_of cs)
-    chosen = ap (λ (b : Bool). cond b (words_of cs) (cond (begins_word cs) (onto_first c (words_of cs)) ((c ∷ []) ∷ words_of cs))) (not_true (is_space c) h)
+    chosen = ap (λ (b : Bool). cond b (words_of cs) (cond (begins_word cs) (onto_first c (words_of cs)) ((c ∷ []) ∷ words_of cs))) (not-true (is_space c) h)
 
     size : prefix_len is_inside (c ∷ cs) ≡ suc (prefix_len is_inside cs)
     size = ap (λ (b : Bool). cond b (1 + prefix_len is_inside cs) 0) h ∙ omega arith

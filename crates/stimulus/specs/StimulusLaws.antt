@@ -3,7 +3,7 @@ use Rattle.std.specs.Prelude.{◌≡◌, ℕ, ◌+◌, ◌^◌, ◌≤◌, List,
 use Rattle.std.specs.List.{position_from, list_all}
 use Rattle.std.specs.Str.{bytes_eq}
 use Rattle.std.proofs.Common.{refl, ap, ◌∙◌, subst, arith, zero, suc}
-use Rattle.std.proofs.lemmas.Bool.{leb-true, ltb-true, eq-eqb}
+use Rattle.std.proofs.lemmas.Bool.{and_parts, leb-true, ltb-true, eq-eqb}
 use Rattle.std.proofs.Math.Nat.{mod-eq_of_lt}
 use Rattle.vs_base.specs.Number.{kept}
 use Rattle.vs_base.specs.declared.act.Act.{Act}
@@ -16,17 +16,13 @@ use Rattle.stimulus.specs.Stimulus.{StimPort, is_input, place_of, width_at, set_
 
 -- ---- the place of a name is that of an input
 
-and_left : (a b : Bool) → (a && b) ≡ true → a ≡ true
-and_left true b h = refl
-and_left false b h = h
-
 input_from : (name : Text) (k : ℕ) (ports : List StimPort) (place : ℕ) → position_from (is_input name) k ports ≡ Some place → (j : ℕ) × (place ≡ k + j) × (is_input_at ports j ≡ true)
 input_from name k [] place h = cc
 input_from name k (p ∷ ports) place h = by (is_input name p) refl h (λ later. input_from name (k + 1) ports place later)
   where
     by : (b : Bool) → is_input name p ≡ b → cond b (Some k) (position_from (is_input name) (k + 1) ports) ≡ Some place
         → (position_from (is_input name) (k + 1) ports ≡ Some place → (j : ℕ) × (place ≡ k + 1 + j) × (is_input_at ports j ≡ true)) → (j : ℕ) × (place ≡ k + j) × (is_input_at (p ∷ ports) j ≡ true)
-    by true e h later = let same : k ≡ place = cc in (zero, omega (arith, same), and_left p.input (bytes_eq name p.name) e)
+    by true e h later = let same : k ≡ place = cc in (zero, omega (arith, same), (and_parts p.input (bytes_eq name p.name) e).0)
     by false e h later = let r = later h in (suc r.0, omega (arith, r.1), r.2)
 
 pub place_is_input : (ports : List StimPort) (name : Text) (place : ℕ) → place_of ports name ≡ Some place → is_input_at ports place ≡ true
