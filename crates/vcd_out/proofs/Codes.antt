@@ -1,6 +1,6 @@
 -- Codes: their first character and the rest, and how long they are.
-use Rattle.std.proofs.Common.{◌≡◌, ℕ, zero, suc, ◌+◌, ◌-◌, ◌*◌, ◌/◌, ◌%◌, ◌^◌, ◌<◌, ◌≤◌, List, [], ◌∷◌, ◌++◌, length, append_assoc, append-nil, Bool, true, false, cond, ltb, refl, sym, ◌∙◌, ap, subst, arith, lit<, lit≤}
-use Rattle.std.proofs.lemmas.Bool.{ltb-true, ltb-false, lt-ltb}
+use Rattle.std.proofs.Common.{◌≡◌, ℕ, zero, suc, ◌+◌, ◌-◌, ◌*◌, ◌/◌, ◌%◌, ◌^◌, ◌<◌, ◌≤◌, List, [], ◌∷◌, ◌++◌, length, append_assoc, Bool, true, false, cond, ltb, refl, sym, ◌∙◌, ap, subst, arith, lit<, lit≤}
+use Rattle.std.proofs.lemmas.Bool.{false_from_ne_true, ltb-true, ltb-false}
 use Rattle.std.proofs.Math.Nat.{div-lt_iff_lt-mul, pow-suc}
 use Rattle.vcd_out.specs.Code.{code_within, code_of}
 
@@ -53,11 +53,7 @@ length-code_of k h =
 -- ---- a code is written, character by character
 
 not_below : (k : ℕ) → 94 ≤ k → ltb k 94 ≡ false
-not_below k big = by (ltb k 94) refl
-  where
-    by : (b : Bool) → ltb k 94 ≡ b → b ≡ false
-    by false e = refl
-    by true e = let small : k < 94 = ltb-true k 94 e in absurd (omega arith)
+not_below k big = false_from_ne_true (ltb k 94) (λ e. let small : k < 94 = ltb-true k 94 e in omega arith)
 
 pub code_starts : (text : List ℕ) (k : ℕ) → (text ++ (33 + k % 94) ∷ []) ++ code_after k ≡ text ++ code_of k
 code_starts text k = append_assoc text ((33 + k % 94) ∷ []) (code_after k) ∙ ap (λ (c : List ℕ). text ++ c) (sym (code_of-is k))
@@ -65,14 +61,8 @@ code_starts text k = append_assoc text ((33 + k % 94) ∷ []) (code_after k) ∙
 opened : (k : ℕ) → 94 ≤ k → code_after k ≡ code_of (k / 94 - 1)
 opened k big = ap (λ (b : Bool). cond b [] (code_of (k / 94 - 1))) (not_below k big)
 
-closed : (k : ℕ) → k < 94 → code_after k ≡ []
-closed k small = ap (λ (b : Bool). cond b [] (code_of (k / 94 - 1))) (lt-ltb k 94 small)
-
 pub code_goes : (text : List ℕ) (k next : ℕ) → 94 ≤ k → next ≡ k / 94 - 1 → (text ++ (33 + next % 94) ∷ []) ++ code_after next ≡ text ++ code_after k
 code_goes text k next big is = code_starts text next ∙ ap (λ (c : List ℕ). text ++ c) (ap code_of is ∙ sym (opened k big))
-
-pub code_ends : (text : List ℕ) (k : ℕ) → k < 94 → text ++ code_after k ≡ text
-code_ends text k small = ap (λ (c : List ℕ). text ++ c) (closed k small) ∙ append-nil text
 
 -- what is left of it
 pub left_of_start : (k : ℕ) → k < 2 ^ 64 → 1 + length (code_after k) ≤ 10

@@ -1,7 +1,7 @@
 -- Chains of places that have one key.
-use Rattle.std.proofs.Common.{◌≡◌, ℕ, zero, suc, ◌+◌, ◌<◌, ◌≤◌, List, [], ◌∷◌, length, set, get_or, drop, Option, Some, None, Bool, true, false, cond, eqb, replicate, refl, sym, inl, inr, ◌∙◌, ap, subst, arith}
+use Rattle.std.proofs.Common.{◌≡◌, ℕ, zero, suc, ◌+◌, ◌<◌, ◌≤◌, List, [], ◌∷◌, length, set, get_or, drop, Option, Some, None, Bool, true, false, cond, eqb, refl, sym, inl, inr, ◌∙◌, ap, subst, arith}
 use Rattle.std.proofs.Math.Seq.{drop-cons}
-use Rattle.std.proofs.lemmas.List.{drop_all, get_or_past, get_or-replicate, length-replicate, length-set, length-drop, get_or-set_same, get_or-set_other}
+use Rattle.std.proofs.lemmas.List.{get_or_past, length-set, length-drop, get_or-set_same, get_or-set_other}
 use Rattle.std.proofs.lemmas.Bool.{eqb-true, eq-eqb}
 use Rattle.std.proofs.lemmas.Bool.Decides.{leb_tells, eqb_tells}
 use Rattle.vcd_out.specs.Places.{IsLinked, places_from, place_from}
@@ -89,14 +89,6 @@ pub record LinkedFrom (at : ℕ) (keys : List ℕ) (first next : List (Option �
   pub next_is : (place : ℕ) → at ≤ place → place < length keys → get_or next place None ≡ place_from (suc place) (drop (suc place) keys) (get_or keys place 0)
   pub next_length : length next ≡ length keys
 
-pub link_start : (keys : List ℕ) (bound : ℕ) → LinkedFrom (length keys) keys (replicate bound None) (replicate (length keys) None)
-link_start keys bound = record {
-  near = omega arith;
-  first_is = λ key h. get_or-replicate bound key None None (let e = length-replicate {A = Option ℕ} bound None in omega arith) ∙ sym (ap (λ (left : List ℕ). place_from (length keys) left key) (drop_all (length keys) keys (omega arith)));
-  next_is = λ place far h. absurd (omega arith);
-  next_length = length-replicate (length keys) None;
-}
-
 first_step : (at : ℕ) (keys : List ℕ) (key k : ℕ) (first : List (Option ℕ)) → at < length keys → key ≡ get_or keys at 0 → key < length first
     → get_or first k None ≡ place_from (suc at) (drop (suc at) keys) k
     → get_or (set first key (Some at)) k None ≡ place_from at (drop at keys) k
@@ -138,13 +130,4 @@ link_step n at keys first next key was l is key_is h was_is =
       first_is = λ k below. first_step at keys key k first (omega arith) key_is h (l'.first_is k (let e = length-set first key (Some at) in omega arith));
       next_is = λ place far below. next_step at keys key place next was (omega arith) key_is (was_is ∙ l'.first_is key h) far (λ further. l'.next_is place further below);
       next_length = length-set next at was ∙ l'.next_length;
-    }
-
-pub link_end : (at : ℕ) (keys : List ℕ) (first next : List (Option ℕ)) → LinkedFrom at keys first next → at ≡ 0 → IsLinked keys first next
-link_end at keys first next l is =
-    let l' : LinkedFrom 0 keys first next = subst (λ (m : ℕ). LinkedFrom m keys first next) is l in
-    record {
-      first_is = l'.first_is;
-      next_is = λ place below. l'.next_is place (omega arith) below;
-      next_length = l'.next_length;
     }
