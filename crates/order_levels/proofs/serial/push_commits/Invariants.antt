@@ -1,0 +1,6 @@
+use Rattle.std.proofs.Common.{◌≡◌, ◌++◌, map, take}
+use Rattle.plan_graph.specs.declared.node.Node.TheVariants.{Commit}
+use Rattle.order_levels.proofs.serial.push_commits.Given as goal
+
+abbrev pub invariant-loop-p : goal.invariant-loop-p
+invariant-loop-p l = l.nodes.items ≡ l.initial.nodes.items ++ map (λ p. Commit p) (take l.p-index l.procs)
