@@ -1,14 +1,14 @@
 -- Edges by their ends: lists of sources and targets, and counts.
-use Rattle.std.proofs.Common.{◌≡◌, ◌+◌, ◌<◌, ◌≤◌, ◌==◌, ℕ, zero, suc, List, [], ◌∷◌, ◌++◌, length, get_or, set, take, map, count_by, Bool, true, false, not, cond, ◌&&◌, ◌||◌, nat_lt, refl, sym, ap, subst, ◌∙◌, inl, inr, ◌⊎◌, arith, get_or-set_same, get_or-set_other, append-nil, zero-add}
-use Rattle.std.specs.List.{list_any, list_all, filter, sum_by}
-use Rattle.std.proofs.lemmas.Bool.{cases_eq, cases_Bool, eq-eqb, ne_eqb, eqb-true, ltb-true, and_parts, and_from}
-use Rattle.std.proofs.lemmas.List.{map-append, get_or_read}
-use Rattle.std.proofs.lemmas.List.Sums.{sum_by-cons, sum_by_push}
+use Rattle.std.proofs.Common.{◌≡◌, ◌+◌, ◌<◌, ◌≤◌, ◌==◌, ℕ, zero, suc, List, [], ◌∷◌, ◌++◌, length, get_or, set, take, map, count_by, Bool, true, false, not, cond, ◌&&◌, ◌||◌, nat_lt, refl, sym, ap, ◌∙◌, inl, inr, ◌⊎◌, arith, get_or-set_same, get_or-set_other, append-nil, zero-add}
+use Rattle.std.specs.List.{list_all, filter}
+use Rattle.std.proofs.lemmas.Bool.{cases_eq, cases_Bool, eq-eqb, ne_eqb, ltb-true, and_parts, and_from}
+use Rattle.std.proofs.lemmas.List.{map-append, get_or_read, length-take}
+use Rattle.std.proofs.lemmas.List.Sums.{sum_by-cons, count_by-le-length, count_by_more_yes, count_by_more_no}
 use Rattle.std.proofs.lemmas.List.Elements.{filter_more}
-use Rattle.std.proofs.lemmas.List.Folds.{list_any-append, list_all_at, list_any_at, sum_by-zero}
+use Rattle.std.proofs.lemmas.List.Folds.{list_any-append, list_all_at, sum_by-zero}
 use Rattle.plan_graph.specs.declared.node.Edge.{Edge}
-use Rattle.plan_graph.specs.Graphs.{ends_within, joins, has_edge, is_among}
-use Rattle.order_levels.specs.Sets.{sources_of, targets_of, waits_left, all_below}
+use Rattle.plan_graph.specs.Graphs.{ends_within, has_edge, is_among}
+use Rattle.order_levels.specs.Sets.{sources_of, targets_of, waits_left, all_below, each_below}
 use Rattle.order_levels.specs.Settling.{is_ready}
 
 -- ---- tests of lists
@@ -52,7 +52,7 @@ and_true : (b : Bool) → (b && true) ≡ b
 and_true true = refl
 and_true false = refl
 
-and_false : (b : Bool) → (b && false) ≡ false
+pub and_false : (b : Bool) → (b && false) ≡ false
 and_false true = refl
 and_false false = refl
 
@@ -91,6 +91,15 @@ targets_below nodes n (e ∷ edges) all = by_test (targets_below nodes n edges (
         let parts = and_parts (ends_within nodes e) (list_all (ends_within nodes) edges) all in
         and_from (nat_lt e.to nodes) (all_below nodes (targets_of n edges)) (and_parts (nat_lt e.from nodes) (nat_lt e.to nodes) parts.0).1 others
     by_test others false = others
+
+pub each_below_from : (nodes : ℕ) (lists : List (List ℕ)) → ((n : ℕ) → all_below nodes (get_or lists n []) ≡ true) → each_below nodes lists ≡ true
+each_below_from nodes [] each = refl
+each_below_from nodes (x ∷ lists) each = and_from (all_below nodes x) (each_below nodes lists) (each 0) (each_below_from nodes lists (λ n. each (suc n)))
+
+pub sources_each_below : (nodes : ℕ) (edges : List Edge) (lists : List (List ℕ)) → list_all (ends_within nodes) edges ≡ true → length lists ≡ nodes
+    → ((n : ℕ) → get_or lists n [] ≡ sources_of n edges) → each_below (length lists) lists ≡ true
+sources_each_below nodes edges lists ends len is =
+    ap (λ k. each_below k lists) len ∙ each_below_from nodes lists (λ n. ap (all_below nodes) (is n) ∙ sources_below nodes n edges ends)
 
 -- ---- one more edge
 
@@ -182,6 +191,7 @@ one_less_waits (e ∷ edges) ran n m fresh =
     or_false : (b : Bool) → (b || false) ≡ b
     or_false true = refl
     or_false false = refl
+
     among_now : is_among e.from (ran ++ n ∷ []) ≡ (is_among e.from ran || (n == e.from))
     among_now = among_push e.from n ran
 
@@ -209,7 +219,6 @@ one_less_waits (e ∷ edges) ran n m fresh =
         (λ i. cond ((e.to == m) && not (g i)) 1 0 + count_by (λ t. t == m) (targets_of n (e ∷ edges)))
         ∙ ap (λ k. cond ((e.to == m) && not (is_among e.from ran)) 1 0 + k) (targets (e.from == n) ∙ ap (λ (b : Bool). cond b (cond (e.to == m) 1 0) 0 + count_by (λ t. t == m) (targets_of n edges)) (ne_eqb e.from n other) ∙ zero-add (count_by (λ t. t == m) (targets_of n edges)))
 
-
 -- before any node has run, a node waits for all edges to it
 pub waits_at_first : (edges : List Edge) (n : ℕ) → count_by (λ (e : Edge). e.to == n) edges ≡ waits_left edges [] n
 waits_at_first edges n = λ i. count_by (λ (e : Edge). same (e.to == n) i) edges
@@ -217,3 +226,35 @@ waits_at_first edges n = λ i. count_by (λ (e : Edge). same (e.to == n) i) edge
     same : (to : Bool) → to ≡ (to && not false)
     same true = refl
     same false = refl
+
+-- one edge more in the counts of those that lead to each node
+pub counts_more : (counts : List ℕ) (edges : List Edge) (i old n : ℕ) (d : Edge) → i < length edges → (get_or edges i d).to < length counts
+    → old ≡ get_or counts (get_or edges i d).to 0 → get_or counts n 0 ≡ count_by (λ (e : Edge). e.to == n) (take i edges)
+    → get_or (set counts (get_or edges i d).to (old + 1)) n 0 ≡ count_by (λ (e : Edge). e.to == n) (take (i + 1) edges)
+counts_more counts edges i old n d within to_in was so_far = by_eq (cases_eq n (get_or edges i d).to)
+  where
+    by_eq : (n ≡ (get_or edges i d).to) ⊎ (n ≡ (get_or edges i d).to → ⊥) → get_or (set counts (get_or edges i d).to (old + 1)) n 0 ≡ count_by (λ (e : Edge). e.to == n) (take (i + 1) edges)
+    by_eq (inl e) =
+        let here : get_or (set counts (get_or edges i d).to (old + 1)) n 0 ≡ old + 1 = ap (λ k. get_or (set counts (get_or edges i d).to (old + 1)) k 0) e ∙ get_or-set_same counts (get_or edges i d).to (old + 1) 0 to_in in
+        let more = count_by_more_yes (λ (x : Edge). x.to == n) edges i d within (eq-eqb (get_or edges i d).to n (sym e)) in
+        let had : get_or counts n 0 ≡ old = ap (λ k. get_or counts k 0) e ∙ sym was in
+        omega arith
+    by_eq (inr other) =
+        get_or-set_other counts (get_or edges i d).to n (old + 1) 0 other ∙ so_far
+        ∙ sym (count_by_more_no (λ (x : Edge). x.to == n) edges i d within (ne_eqb (get_or edges i d).to n (λ e. other (sym e))))
+
+-- no more are counted than there are
+pub count_taken : {X : Type 0} (p : X → Bool) (xs : List X) (i : ℕ) → i < length xs → count_by p (take i xs) ≤ i
+count_taken p xs i within = let most = count_by-le-length p (take i xs) in let len = length-take i xs in omega arith
+
+-- what comes next is counted in the whole and not in what was taken
+pub counted_next : (xs : List ℕ) (i m : ℕ) → i < length xs → m ≡ get_or xs i 0 → count_by (λ t. t == m) (take i xs) < count_by (λ t. t == m) xs
+counted_next [] i m within is = absurd (omega arith)
+counted_next (x ∷ xs) zero m within is =
+    let first = count_cons (λ t. t == m) x xs ∙ ap (λ (b : Bool). cond b 1 0 + count_by (λ t. t == m) xs) (eq-eqb x m (sym is)) in
+    omega arith
+counted_next (x ∷ xs) (suc i) m within is =
+    let all = count_cons (λ t. t == m) x xs in
+    let some = count_cons (λ t. t == m) x (take i xs) in
+    let others = counted_next xs i m (omega arith) is in
+    omega arith

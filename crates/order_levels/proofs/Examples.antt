@@ -1,9 +1,9 @@
 -- Settle orders, loops and serial orders of a few nodes.
-use Rattle.std.proofs.Common.{◌≡◌, ℕ, List, [], ◌∷◌, Some, None, true, false, refl}
+use Rattle.std.proofs.Common.{◌≡◌, ℕ, List, [], ◌∷◌, Some, true, false, refl}
 use Rattle.plan_graph.specs.declared.node.Edge.{Edge}
 use Rattle.plan_graph.specs.declared.node.Node.TheVariants.{Comb, Body, Commit}
 use Rattle.plan_graph.specs.declared.node.Part.TheVariants.{Settle, Clocked}
-use Rattle.order_levels.specs.Settling.{is_ready, first_below, all_run, first_left, first_holder, settling, InOrder, Stalls}
+use Rattle.order_levels.specs.Settling.{is_ready, all_run, first_holder, settling, InOrder, Stalls}
 use Rattle.order_levels.specs.Serial.{serial_nodes, node_count}
 
 abbrev edge : ℕ → ℕ → Edge

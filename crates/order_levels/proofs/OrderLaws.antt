@@ -1,7 +1,7 @@
 -- Every node runs where there is no cycle, and each after all that it waits for.
-use Rattle.std.proofs.Common.{◌≡◌, ◌+◌, ◌-◌, ◌<◌, ◌≤◌, ◌==◌, ℕ, zero, suc, List, [], ◌∷◌, ◌++◌, length, Bool, true, false, not, cond, ◌&&◌, ◌||◌, nat_lt, Option, Some, None, refl, sym, ap, subst, ◌∙◌, inl, inr, ◌⊎◌, arith, append_assoc, append-nil}
+use Rattle.std.proofs.Common.{◌≡◌, ◌+◌, ◌<◌, ◌≤◌, ◌==◌, ℕ, zero, suc, List, [], ◌∷◌, ◌++◌, length, Bool, true, false, not, ◌&&◌, ◌||◌, nat_lt, Option, Some, None, refl, sym, ap, ◌∙◌, inl, inr, ◌⊎◌, arith, append_assoc, append-nil}
 use Rattle.std.specs.List.{list_all}
-use Rattle.std.proofs.lemmas.Bool.{cases_eq, cases_Bool, eq-eqb, ne_eqb, and_parts, and_from, and_cases, not-true, not-false, not_from_false, lt-ltb, ltb-true, or_parts}
+use Rattle.std.proofs.lemmas.Bool.{cases_Bool, eq-eqb, and_parts, and_from, and_cases, not-true, not-false, not_from_false, lt-ltb, or_parts}
 use Rattle.std.proofs.lemmas.List.{length_push}
 use Rattle.plan_graph.specs.declared.node.Edge.{Edge}
 use Rattle.plan_graph.specs.Graphs.{ends_within, joins, has_edge, is_among, is_path_to, HasNoCycle}
@@ -9,7 +9,7 @@ use Rattle.plan_graph.specs.GraphLaws.{edge_ends}
 use Rattle.order_levels.specs.Settling.{first_below, is_ready, run_next, run_turns, all_run}
 use Rattle.order_levels.specs.Sets.{all_below}
 use Rattle.order_levels.proofs.FirstLemmas.{found, not_found}
-use Rattle.order_levels.proofs.StallLemmas.{below_push, all_run_below}
+use Rattle.order_levels.proofs.StallLemmas.{below_push}
 use Rattle.order_levels.proofs.Pigeons.{is_distinct, no_longer, distinct_push}
 
 -- ---- after as many turns as there are nodes, none is ready
@@ -43,6 +43,7 @@ waits_for_one (e ∷ edges) ran n waits = by_cases (λ others. waits_for_one edg
     or_true : (b : Bool) → (b || true) ≡ true
     or_true true = refl
     or_true false = refl
+
     by_cases : (list_all (λ (d : Edge). not (d.to == n) || is_among d.from ran) edges ≡ false → (m : ℕ) × (has_edge edges m n ≡ true) × (is_among m ran ≡ false))
         → ((not (e.to == n) || is_among e.from ran) ≡ false) ⊎ (list_all (λ (d : Edge). not (d.to == n) || is_among d.from ran) edges ≡ false)
         → (m : ℕ) × (has_edge (e ∷ edges) m n ≡ true) × (is_among m ran ≡ false)

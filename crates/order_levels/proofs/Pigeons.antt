@@ -1,7 +1,7 @@
 -- A list of different numbers below a bound is no longer than the bound.
-use Rattle.std.proofs.Common.{◌≡◌, ◌+◌, ◌<◌, ◌≤◌, ◌==◌, ℕ, zero, suc, List, [], ◌∷◌, ◌++◌, length, Bool, true, false, not, cond, ◌&&◌, ◌||◌, nat_lt, refl, sym, ap, ◌∙◌, inl, inr, ◌⊎◌, arith}
-use Rattle.std.specs.List.{list_all, filter}
-use Rattle.std.proofs.lemmas.Bool.{cases_eq, cases_Bool, eq-eqb, ne_eqb, and_parts, and_from, not-true, not_from_false, ltb-true, lt-ltb, or_parts, or_from}
+use Rattle.std.proofs.Common.{◌≡◌, ◌≤◌, ◌==◌, ℕ, zero, suc, List, [], ◌∷◌, ◌++◌, length, Bool, true, false, not, cond, ◌&&◌, nat_lt, refl, sym, ap, ◌∙◌, inl, inr, ◌⊎◌, arith}
+use Rattle.std.specs.List.{filter}
+use Rattle.std.proofs.lemmas.Bool.{cases_eq, eq-eqb, ne_eqb, and_parts, and_from, not-true, not_from_false, ltb-true, lt-ltb, or_parts, or_from}
 use Rattle.plan_graph.specs.Graphs.{is_among}
 use Rattle.order_levels.specs.Sets.{all_below}
 use Rattle.order_levels.proofs.EdgeLemmas.{among_push}
@@ -25,6 +25,7 @@ one_less n (x ∷ xs) distinct = by_eq (one_less n xs (and_parts (not (is_among 
   where
     parts : (not (is_among x xs) ≡ true) × (is_distinct xs ≡ true)
     parts = and_parts (not (is_among x xs)) (is_distinct xs) distinct
+
     by_eq : length xs ≤ suc (length (without n xs)) → (x ≡ n) ⊎ (x ≡ n → ⊥) → suc (length xs) ≤ suc (length (cond (not (x == n)) (x ∷ without n xs) (without n xs)))
     by_eq others (inl e) =
         let none : is_among n xs ≡ false = ap (λ k. is_among k xs) (sym e) ∙ not-true (is_among x xs) parts.0 in
@@ -40,6 +41,7 @@ not_among_without n x (y ∷ xs) none = by_test (not_among_without n x xs (or_pa
   where
     parts : ((y == x) ≡ false) × (is_among x xs ≡ false)
     parts = or_parts (y == x) (is_among x xs) none
+
     by_test : is_among x (without n xs) ≡ false → (b : Bool) → is_among x (cond b (y ∷ without n xs) (without n xs)) ≡ false
     by_test others true = or_from (y == x) (is_among x (without n xs)) parts.0 others
     by_test others false = others
@@ -50,6 +52,7 @@ distinct_without n (x ∷ xs) distinct = by_test (distinct_without n xs (and_par
   where
     parts : (not (is_among x xs) ≡ true) × (is_distinct xs ≡ true)
     parts = and_parts (not (is_among x xs)) (is_distinct xs) distinct
+
     by_test : is_distinct (without n xs) ≡ true → (b : Bool) → is_distinct (cond b (x ∷ without n xs) (without n xs)) ≡ true
     by_test others true =
         and_from (not (is_among x (without n xs))) (is_distinct (without n xs))
@@ -62,6 +65,7 @@ below_without n (x ∷ xs) below = by_eq (below_without n xs (and_parts (nat_lt 
   where
     parts : (nat_lt x (suc n) ≡ true) × (all_below (suc n) xs ≡ true)
     parts = and_parts (nat_lt x (suc n)) (all_below (suc n) xs) below
+
     by_eq : all_below n (without n xs) ≡ true → (x ≡ n) ⊎ (x ≡ n → ⊥) → all_below n (cond (not (x == n)) (x ∷ without n xs) (without n xs)) ≡ true
     by_eq others (inl e) = ap (λ (b : Bool). all_below n (cond (not b) (x ∷ without n xs) (without n xs))) (eq-eqb x n e) ∙ others
     by_eq others (inr other) =
@@ -88,5 +92,5 @@ distinct_push (x ∷ xs) n distinct none =
     (distinct_push xs n parts.1 apart.1)
   where
     turned : (n ≡ x) ⊎ (n ≡ x → ⊥) → (x == n) ≡ false → (n == x) ≡ false
-    turned (inl e) no = absurd (let both : true ≡ false = sym (eq-eqb x n (sym e)) ∙ no in cc)
-    turned (inr other) no = ne_eqb n x other
+    turned (inl e) apart = absurd (let both : true ≡ false = sym (eq-eqb x n (sym e)) ∙ apart in cc)
+    turned (inr other) apart = ne_eqb n x other

@@ -1,12 +1,11 @@
 -- The turns of settling, by lists, counts and the set of those that are ready.
-use Rattle.std.proofs.Common.{◌≡◌, ◌+◌, ◌*◌, ◌-◌, ◌<◌, ◌≤◌, ◌==◌, ℕ, zero, suc, List, [], ◌∷◌, ◌++◌, length, get_or, count_by, Bool, true, false, not, cond, ◌&&◌, ◌||◌, nat_lt, Option, Some, None, refl, sym, ap, subst, ◌∙◌, inl, inr, ◌⊎◌, arith}
+use Rattle.std.proofs.Common.{◌≡◌, ◌+◌, ◌*◌, ◌<◌, ◌≤◌, ◌==◌, ℕ, zero, suc, List, [], ◌∷◌, ◌++◌, length, get_or, count_by, Bool, true, false, not, ◌&&◌, ◌||◌, nat_lt, Option, Some, None, refl, sym, ap, subst, ◌∙◌, inl, inr, ◌⊎◌, arith}
 use Rattle.std.specs.List.{list_all}
-use Rattle.std.proofs.lemmas.Bool.{cases_eq, cases_lt, cases_Bool, eq-eqb, ne_eqb, eqb-true, eqb-false, lt-ltb, le-ltb, ltb-true, and_parts, or_cases, not-true, not-false}
-use Rattle.std.proofs.lemmas.Bool.Decides.{nat_tests}
+use Rattle.std.proofs.lemmas.Bool.{cases_eq, cases_lt, cases_Bool, eq-eqb, ne_eqb, eqb-true, lt-ltb, le-ltb, ltb-true, and_parts, or_cases, not-true, not-false}
 use Rattle.plan_graph.specs.declared.node.Edge.{Edge}
 use Rattle.plan_graph.specs.Graphs.{ends_within, has_edge, is_among}
 use Rattle.plan_graph.specs.GraphLaws.{edge_ends}
-use Rattle.order_levels.specs.Settling.{first_below, is_ready, run_next, run_turns, all_run}
+use Rattle.order_levels.specs.Settling.{first_below, is_ready, run_next, run_turns}
 use Rattle.order_levels.specs.Sets.{is_member, targets_of, waits_left, all_below}
 use Rattle.order_levels.specs.Running.{Running, CanRun}
 use Rattle.order_levels.proofs.FirstLemmas.{first_some, first_none}

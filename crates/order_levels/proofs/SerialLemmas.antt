@@ -1,8 +1,8 @@
 -- Numbers of processes, and how many nodes a part has.
-use Rattle.std.proofs.Common.{◌≡◌, ◌+◌, ◌<◌, ◌≤◌, ℕ, zero, suc, List, [], ◌∷◌, ◌++◌, length, get_or, take, map, Bool, true, false, not, cond, count_by, refl, sym, ap, ◌∙◌, arith, length-append, zero-add}
-use Rattle.std.proofs.lemmas.List.{length-map}
+use Rattle.std.proofs.Common.{◌≡◌, ◌+◌, ◌<◌, ℕ, suc, List, [], ◌∷◌, ◌++◌, length, get_or, take, map, Bool, true, false, not, cond, count_by, refl, sym, ap, ◌∙◌, arith, length-append, zero-add}
+use Rattle.std.proofs.lemmas.List.{length-map, length-take, take_more}
+use Rattle.std.proofs.Math.Bool.{beq}
 use Rattle.std.proofs.lemmas.List.Sums.{sum_by-cons}
-use Rattle.plan_graph.specs.declared.node.Node.{Node}
 use Rattle.plan_graph.specs.declared.node.Node.TheVariants.{Comb, Body, Commit}
 use Rattle.plan_graph.specs.declared.node.Part.{Part}
 use Rattle.plan_graph.specs.declared.node.Part.TheVariants.{Settle, Clocked}
@@ -30,6 +30,32 @@ from_push at passes (x ∷ clocked) c = by_test (passes x) (from_push (suc at) p
 pub numbers_push : (passes : Bool → Bool) (clocked : List Bool) (c : Bool)
     → numbers_from 0 passes (clocked ++ c ∷ []) ≡ numbers_from 0 passes clocked ++ cond (passes c) (length clocked ∷ []) []
 numbers_push passes clocked c = from_push 0 passes clocked c ∙ ap (λ k. numbers_from 0 passes clocked ++ cond (passes c) (k ∷ []) []) (zero-add (length clocked))
+
+-- one process more, of those that are taken
+pub numbers_more : (kind : Bool) (clocked : List Bool) (i : ℕ) → i < length clocked
+    → cond kind (clocked_procs (take (i + 1) clocked)) (comb_procs (take (i + 1) clocked))
+    ≡ cond kind (clocked_procs (take i clocked)) (comb_procs (take i clocked)) ++ cond (beq (get_or clocked i false) kind) (i ∷ []) []
+numbers_more kind clocked i within = by_kind kind
+  where
+    len : length (take i clocked) ≡ i
+    len = let all = length-take i clocked in omega arith
+
+    by_kind : (kind : Bool) → cond kind (clocked_procs (take (i + 1) clocked)) (comb_procs (take (i + 1) clocked))
+        ≡ cond kind (clocked_procs (take i clocked)) (comb_procs (take i clocked)) ++ cond (beq (get_or clocked i false) kind) (i ∷ []) []
+    by_kind true =
+        ap clocked_procs (take_more clocked i false within) ∙ numbers_push (λ c. c) (take i clocked) (get_or clocked i false)
+        ∙ (λ j. clocked_procs (take i clocked) ++ cond (same (get_or clocked i false) j) (len j ∷ []) [])
+      where
+        same : (c : Bool) → c ≡ beq c true
+        same true = refl
+        same false = refl
+    by_kind false =
+        ap comb_procs (take_more clocked i false within) ∙ numbers_push not (take i clocked) (get_or clocked i false)
+        ∙ (λ j. comb_procs (take i clocked) ++ cond (same (get_or clocked i false) j) (len j ∷ []) [])
+      where
+        same : (c : Bool) → not c ≡ beq c false
+        same true = refl
+        same false = refl
 
 -- how many there are
 from_length : (at : ℕ) (passes : Bool → Bool) (clocked : List Bool) → length (numbers_from at passes clocked) ≡ count_by passes clocked

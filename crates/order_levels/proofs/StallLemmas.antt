@@ -1,17 +1,15 @@
 -- The walk to a loop, by marks and lists of sources.
-use Rattle.std.proofs.Common.{◌≡◌, ◌+◌, ◌-◌, ◌<◌, ◌≤◌, ◌==◌, ℕ, zero, suc, List, [], ◌∷◌, ◌++◌, length, get_or, set, min, Bool, true, false, not, cond, ◌&&◌, ◌||◌, nat_lt, Option, Some, None, refl, sym, ap, subst, ◌∙◌, inl, inr, ◌⊎◌, arith, get_or-set_same, get_or-set_other}
-use Rattle.std.specs.List.{list_any, list_all}
+use Rattle.std.proofs.Common.{◌≡◌, ◌+◌, ◌<◌, ◌≤◌, ◌==◌, ℕ, zero, suc, List, [], ◌∷◌, ◌++◌, length, get_or, set, min, Bool, true, false, not, cond, ◌&&◌, ◌||◌, nat_lt, Option, Some, None, refl, sym, ap, ◌∙◌, inl, inr, ◌⊎◌, arith, get_or-set_same, get_or-set_other}
 use Rattle.std.specs.Option.{IfSome, MatchOption}
-use Rattle.std.proofs.lemmas.Bool.{cases_eq, cases_lt, cases_Bool, eq-eqb, ne_eqb, eqb-true, and_parts, ltb-true, lt-ltb}
-use Rattle.std.proofs.lemmas.List.{get_or_past, length_push}
+use Rattle.std.proofs.lemmas.Bool.{cases_eq, cases_lt, eq-eqb, ne_eqb, and_parts, lt-ltb}
+use Rattle.std.proofs.lemmas.List.{length_push}
 use Rattle.std.proofs.lemmas.List.Folds.{list_all-append}
 use Rattle.plan_graph.specs.declared.node.Edge.{Edge}
-use Rattle.plan_graph.specs.Graphs.{ends_within, has_edge, is_among}
-use Rattle.plan_graph.specs.GraphLaws.{edge_ends}
-use Rattle.order_levels.specs.Settling.{first_from, first_below, run_next, run_turns, all_run, first_left, first_holder, list_from, walk_turns, is_ready, after_run, Settling, InOrder, Stalls}
-use Rattle.order_levels.specs.Sets.{sources_of, all_below, each_below, unmarked, holder_in}
-use Rattle.order_levels.proofs.FirstLemmas.{first_some, first_none, first_agree, found, not_found}
-use Rattle.order_levels.proofs.EdgeLemmas.{among_push, sources_are, sources_below}
+use Rattle.plan_graph.specs.Graphs.{is_among}
+use Rattle.order_levels.specs.Settling.{first_below, run_next, run_turns, all_run, first_left, first_holder, list_from, walk_turns, is_ready, after_run, Stalls}
+use Rattle.order_levels.specs.Sets.{sources_of, all_below, unmarked, holder_in}
+use Rattle.order_levels.proofs.FirstLemmas.{first_some, first_agree, found, not_found}
+use Rattle.order_levels.proofs.EdgeLemmas.{among_push, sources_are}
 
 -- ---- what runs are nodes
 
@@ -47,6 +45,7 @@ holder_same marks xs m nodes mark = λ i. first_below (λ j. same j i) nodes
     or_false : (b : Bool) → (b || false) ≡ b
     or_false true = refl
     or_false false = refl
+
     same : (j : ℕ) → unmarked marks (xs ++ m ∷ []) j ≡ unmarked marks xs j
     same j = ap (λ (b : Bool). not (get_or marks j true) && b) (among_push j m xs) ∙ by_eq (cases_eq m j)
       where
@@ -72,6 +71,7 @@ holder_more marks xs m nodes new None within mark is least =
     or_false : (b : Bool) → (b || false) ≡ b
     or_false true = refl
     or_false false = refl
+
     before : (j : ℕ) → j < new → unmarked marks (xs ++ m ∷ []) j ≡ false
     before j less =
         let other : (m ≡ j → ⊥) = λ e. omega arith in
@@ -105,7 +105,51 @@ holder_more marks xs m nodes new (Some k) within mark is least =
         ap (λ (b : Bool). not (get_or marks j true) && b) (among_push j m xs ∙ ap (λ (b : Bool). is_among j xs || b) (ne_eqb m j other) ∙ or_false (is_among j xs))
         ∙ (found (unmarked marks xs) nodes k (sym is)).2 j lower
 
+-- what is found is within the bound
+pub first_within : (p : ℕ → Bool) (many : ℕ) (o : Option ℕ) → o ≡ first_below p many → IfSome o (λ n. n < many)
+first_within p many None is = tt
+first_within p many (Some n) is = (found p many n (sym is)).0
+
 -- ---- the walk
+
+pub walk_none : (turns : ℕ) (holder : ℕ → Option ℕ) (walked : List ℕ) → walk_turns turns holder walked None ≡ []
+walk_none zero holder walked = refl
+walk_none (suc turns) holder walked = refl
+
+pub walk_seen : (left turns : ℕ) (holder : ℕ → Option ℕ) (walked : List ℕ) (n : ℕ) → left ≡ suc turns → is_among n walked ≡ true
+    → walk_turns left holder walked (Some n) ≡ list_from n walked
+walk_seen left turns holder walked n is seen =
+    ap (λ k. walk_turns k holder walked (Some n)) is ∙ ap (λ (b : Bool). cond b (list_from n walked) (walk_turns turns holder (walked ++ n ∷ []) (holder n))) seen
+
+pub walk_on : (left turns : ℕ) (holder : ℕ → Option ℕ) (walked : List ℕ) (n : ℕ) → left ≡ suc turns → is_among n walked ≡ false
+    → walk_turns turns holder (walked ++ n ∷ []) (holder n) ≡ walk_turns left holder walked (Some n)
+walk_on left turns holder walked n is fresh =
+    sym (ap (λ k. walk_turns k holder walked (Some n)) is ∙ ap (λ (b : Bool). cond b (list_from n walked) (walk_turns turns holder (walked ++ n ∷ []) (holder n))) fresh)
+
+-- one mark more
+pub mark_more : (marks : List Bool) (list : List ℕ) (n m : ℕ) → n < length marks → get_or marks m true ≡ is_among m list → get_or (set marks n true) m true ≡ is_among m (list ++ n ∷ [])
+mark_more marks list n m within marked = by_eq (cases_eq m n)
+  where
+    or_true : (b : Bool) → (b || true) ≡ true
+    or_true true = refl
+    or_true false = refl
+
+    or_false : (b : Bool) → (b || false) ≡ b
+    or_false true = refl
+    or_false false = refl
+
+    by_eq : (m ≡ n) ⊎ (m ≡ n → ⊥) → get_or (set marks n true) m true ≡ is_among m (list ++ n ∷ [])
+    by_eq (inl e) =
+        ap (λ k. get_or (set marks n true) k true) e ∙ get_or-set_same marks n true true within
+        ∙ sym (among_push m n list ∙ ap (λ (b : Bool). is_among m list || b) (eq-eqb n m (sym e)) ∙ or_true (is_among m list))
+    by_eq (inr other) =
+        get_or-set_other marks n m true true other ∙ marked
+        ∙ sym (among_push m n list ∙ ap (λ (b : Bool). is_among m list || b) (ne_eqb n m (λ e. other (sym e))) ∙ or_false (is_among m list))
+
+-- the first node that is not marked is the first that has not run
+pub first_unmarked_is_left : (nodes : ℕ) (ran : List ℕ) (marks : List Bool) → length marks ≡ nodes → ((m : ℕ) → m < nodes → get_or marks m true ≡ is_among m ran)
+    → first_below (λ m. not (get_or marks m true)) (length marks) ≡ first_left nodes ran
+first_unmarked_is_left nodes ran marks len marked = ap (first_below (λ m. not (get_or marks m true))) len ∙ first_agree nodes (λ m less. ap not (marked m less))
 
 -- marks and lists tell what holds each node up
 pub holders_same : (nodes : ℕ) (edges : List Edge) (ran : List ℕ) (sources : List (List ℕ)) (marks : List Bool)

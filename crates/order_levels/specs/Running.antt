@@ -1,5 +1,5 @@
 -- What the lists, the counts and the set of the turns hold.
-use Rattle.std.specs.Prelude.{◌≡◌, ◌<◌, ◌≤◌, ℕ, ◌*◌, ◌==◌, nat_lt, Bool, true, false, not, ◌&&◌, ◌||◌, List, [], length, slice_index, slice_index_or, count_by}
+use Rattle.std.specs.Prelude.{◌≡◌, ◌<◌, ◌≤◌, ℕ, ◌*◌, ◌==◌, nat_lt, true, ◌&&◌, List, [], length, slice_index, slice_index_or, count_by}
 use Rattle.plan_graph.specs.declared.node.Edge.{Edge}
 use Rattle.plan_graph.specs.Graphs.{is_among}
 use Rattle.order_levels.specs.Settling.{is_ready}

@@ -1,5 +1,5 @@
 -- How the code holds sets, lists and counts of nodes.
-use Rattle.std.specs.Prelude.{◌≡◌, ℕ, suc, ◌+◌, ◌/◌, ◌%◌, ◌==◌, nat_lt, max, Bool, true, false, not, ◌&&◌, List, [], length, Option, slice_index, slice_index_or, slice_set, map, fold, count_by}
+use Rattle.std.specs.Prelude.{ℕ, ◌+◌, ◌/◌, ◌%◌, ◌==◌, nat_lt, max, Bool, true, not, ◌&&◌, List, [], length, Option, slice_index, slice_index_or, slice_set, map, fold, count_by}
 use Rattle.std.specs.Int.{bit_at}
 use Rattle.std.specs.List.{filter, list_all}
 use Rattle.plan_graph.specs.declared.node.Edge.{Edge}

@@ -1,8 +1,7 @@
 -- What a settle order and a loop tell, whatever the edges are.
-use Rattle.std.specs.Prelude.{◌≡◌, ◌<◌, ℕ, true, false, List, [], ◌∷◌, ◌++◌, length}
+use Rattle.std.specs.Prelude.{◌≡◌, ◌<◌, ℕ, true, List, [], ◌∷◌, ◌++◌}
 use Rattle.plan_graph.specs.declared.node.Edge.{Edge}
-use Rattle.plan_graph.specs.Graphs.{has_edge, is_among, is_path_to, HasNoCycle}
-use Rattle.order_levels.specs.Settling.{Settling, InOrder, Stalls, settling}
+use Rattle.plan_graph.specs.Graphs.{has_edge, is_among, is_path_to}
 
 -- every node stands in a settle order
 abbrev pub HasEachNode : ℕ → List ℕ → Type 0

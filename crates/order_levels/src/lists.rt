@@ -14,7 +14,7 @@ fn empty_lists(alloc: Global, nodes: u32) -> Result<Vec<Items<u32>>, AllocError>
     ensures empty { IfOk result (λ v. (n : ℕ) → slice_index_or v.items n [] ≡ []) }
 {
     let mut lists = Vec::with_capacity(alloc, nodes as usize)?;
-    while lists.len() < nodes as usize {
+    'fill: while lists.len() < nodes as usize {
         lists.push(Items::new(alloc))?;
     }
     Ok(lists)

@@ -73,7 +73,7 @@ fn ready_at_first(alloc: Global, nodes: u32, waits: &[usize]) -> Result<NodeSet,
 // A node has run: it is ready no more, and its targets wait for one less.
 fn run_node(turns: &mut Turns, n: u32)
     requires { CanRun turns.old.targets.items turns.old.waits.items turns.old.ready.words.items n }
-    ensures targets { turns.new.targets ≡ turns.old.targets }
+    ensures targets { turns.new.targets.items ≡ turns.old.targets.items }
     ensures waits_len { length turns.new.waits.items ≡ length turns.old.waits.items }
     ensures words_len { length turns.new.ready.words.items ≡ length turns.old.ready.words.items }
     ensures counts { (m : ℕ) → slice_index turns.new.waits.items m + count_by (λ t. t == m) (slice_index_or turns.old.targets.items n []) ≡ slice_index turns.old.waits.items m }

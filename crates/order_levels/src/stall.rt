@@ -1,6 +1,6 @@
 //! What holds up the nodes that have not run.
-ghost use Rattle.std.specs.Prelude.{◌≡◌, ◌<◌, ◌^◌, ◌&&◌, ℕ, suc, true, not, nat_lt, IfOk, length, [], None, Some, slice_index_or, MatchOption, min};
-ghost use Rattle.std.specs.List.{list_all};
+ghost use Rattle.std.specs.Prelude.{◌≡◌, ◌<◌, ◌≤◌, ◌==◌, ◌^◌, ◌&&◌, ℕ, suc, true, not, nat_lt, IfOk, length, [], None, Some, slice_index_or, MatchOption, min};
+ghost use Rattle.std.specs.List.{list_all, position_or_len};
 ghost use Rattle.plan_graph.specs.Graphs.{ends_within, is_among};
 ghost use Rattle.order_levels.specs.Settling.{InOrder, Stalls, after_run, first_left, first_below, walk_turns, list_from};
 ghost use Rattle.order_levels.specs.Sets.{all_below, each_below, holder_in, unmarked};
@@ -100,6 +100,20 @@ fn least_of(least: Option<u32>, m: u32) -> u32
 fn list_from(alloc: Global, n: u32, list: &[u32]) -> Result<Vec<u32>, AllocError>
     ensures { IfOk result (λ v. v.items ≡ list_from n list.now) }
 {
-    let at = list.iter().position(|m| *m == n).unwrap_or(list.len());
+    let at = place_of(n, list);
     Vec::from_slice(alloc, &list[at..])
+}
+
+// The first place of a number in a list, or the list's length.
+#[tactic(auto, using(std::proofs::lemmas::List::Sums::position_or_len_is))]
+fn place_of(n: u32, list: &[u32]) -> usize
+    ensures within { result ≤ length list.now }
+    ensures place { position_or_len (λ m. m == n) list.now ≡ result }
+{
+    for i in 0..list.len() {
+        if list[i] == n {
+            return i;
+        }
+    }
+    list.len()
 }

@@ -1,4 +1,4 @@
-use Rattle.std.proofs.Common.{◌≡◌, ◌≤◌, ◌*◌, ◌==◌, ◌&&◌, ℕ, nat_lt, length, get_or, vec_len}
+use Rattle.std.proofs.Common.{◌≡◌, ◌≤◌, ◌*◌, ◌==◌, ◌&&◌, ℕ, nat_lt, get_or, vec_len}
 use Rattle.order_levels.specs.Sets.{is_member}
 use Rattle.order_levels.proofs.running.ready_at_first.Given as goal
 

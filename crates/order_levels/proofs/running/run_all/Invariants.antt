@@ -1,4 +1,4 @@
-use Rattle.std.proofs.Common.{◌≡◌, ◌-◌, ℕ}
+use Rattle.std.proofs.Common.{◌≡◌, ◌-◌}
 use Rattle.order_levels.specs.Settling.{run_turns, all_run}
 use Rattle.order_levels.specs.Running.{Running}
 use Rattle.order_levels.proofs.running.run_all.Given as goal
