@@ -1,1 +1,4 @@
+pub mod EdgeLemmas
 mod Examples
+pub mod NoteLemmas
+pub mod WriterLemmas

@@ -1,5 +1,5 @@
 -- Which process feeds which, by the ranges of words that they write and read.
-use Rattle.std.specs.Prelude.{◌≡◌, ℕ, suc, ◌==◌, nat_lt, nat_le, max, min, Bool, true, false, not, ◌&&◌, List, [], ◌∷◌, ◌++◌, if◌then◌else◌}
+use Rattle.std.specs.Prelude.{◌≡◌, ℕ, suc, ◌==◌, nat_lt, nat_le, max, min, Bool, false, not, ◌&&◌, List, [], ◌∷◌, ◌++◌, if◌then◌else◌}
 use Rattle.std.specs.List.{list_any, AllPairs}
 use Rattle.plan_graph.specs.declared.node.Edge.{Edge}
 use Rattle.logic_graph.specs.declared.ranges.WordRange.{WordRange}
@@ -19,10 +19,13 @@ meet_somewhere some others = list_any (λ r. list_any (meets r) others) some
 abbrev pub OneWriter : List Touched → Type 0
 OneWriter procs = AllPairs (λ p q. meet_somewhere p.writes q.writes ≡ false) procs
 
+abbrev pub edge_to : ℕ → ℕ → Edge
+edge_to i j = record { from = i; to = j }
+
 -- the edges from a process, which writes these ranges, to each other one that reads a word of them
 abbrev pub edges_out_of : ℕ → List WordRange → ℕ → List Touched → List Edge
 edges_out_of i writes at [] = []
-edges_out_of i writes at (p ∷ more) = if not (at == i) && meet_somewhere writes p.reads then record { from = i; to = at } ∷ edges_out_of i writes (suc at) more else edges_out_of i writes (suc at) more
+edges_out_of i writes at (p ∷ more) = if not (at == i) && meet_somewhere writes p.reads then edge_to i at ∷ edges_out_of i writes (suc at) more else edges_out_of i writes (suc at) more
 
 abbrev pub edges_from : ℕ → List Touched → List Touched → List Edge
 edges_from at [] procs = []

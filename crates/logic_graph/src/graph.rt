@@ -1,15 +1,17 @@
-ghost use Rattle.std.specs.Prelude.{◌≡◌, ◌<◌, ◌≤◌, IfOk, OnOk, IsErrOf, length};
-ghost use Rattle.logic_graph.specs.Reading.{edges_of, OneWriter};
+ghost use Rattle.std.specs.Prelude.{◌≡◌, ◌<◌, ◌≤◌, ◌^◌, ◌++◌, IfOk, OnOk, IsErrOf, MatchOption, length, map, true};
+ghost use Rattle.std.specs.List.{list_all};
+ghost use Rattle.plan_graph.specs.Graphs.{ends_within};
+ghost use Rattle.logic_graph.specs.Reading.{edges_of, OneWriter, edge_to};
+ghost use Rattle.logic_graph.specs.Noting.{listed};
 ghost use Rattle.vs_base.specs.declared.limits.TheConstants.{EDGES};
 
 use crate::fault::GraphFault;
-use crate::noted::{Noted, note_readers};
+use crate::noted::note_readers;
 use crate::ranges::Touched;
 use crate::writers::writers_of;
 use plan_graph::{Edge, Graph};
 use sqlite_items::Items;
 use std::alloc::{AllocError, Global};
-use vs_base::limits;
 
 /// The graph of the combinational processes, whose costs and words are told in elaboration order: an edge leads from
 /// each process to each other one that reads a word which it writes.
@@ -27,25 +29,37 @@ pub fn graph_of(alloc: Global, costs: Items<u32>, procs: &[Touched]) -> Result<G
     if costs.len() >= 1 << 32 {
         return Err(GraphFault::NoMemory);
     }
-    let Ok(noted) = noted_of(alloc, procs) else {
+    let Ok(found) = edges_between(alloc, procs) else {
         return Err(GraphFault::NoMemory);
     };
-    if noted.count > limits::EDGES {
+    let Some(edges) = found else {
         return Err(GraphFault::TooMany);
-    }
-    let Ok(edges) = edges_of(alloc, noted.readers.as_slice()) else {
-        return Err(GraphFault::NoMemory);
     };
     Ok(Graph { costs, edges })
 }
 
-fn noted_of(alloc: Global, procs: &[Touched]) -> Result<Noted, AllocError> {
+// The edges, or nothing where there are too many.
+fn edges_between(alloc: Global, procs: &[Touched]) -> Result<Option<Items<Edge>>, AllocError>
+    requires few { length procs.now < 2 ^ 32 }
+    requires one_writer { OneWriter procs.now }
+    ensures edges { IfOk result (λ o. MatchOption o (EDGES < length (edges_of procs.now)) (λ v. v ≡ edges_of procs.now)) }
+    ensures within { IfOk result (λ o. MatchOption o (EDGES < length (edges_of procs.now)) (λ v. length (edges_of procs.now) ≤ EDGES)) }
+    ensures ends { IfOk result (λ o. MatchOption o (EDGES < length (edges_of procs.now)) (λ v. list_all (ends_within (length procs.now)) v ≡ true)) }
+{
     let writers = writers_of(alloc, procs)?;
-    note_readers(alloc, &writers, procs)
+    let noted = note_readers(alloc, &writers, procs)?;
+    let Some(readers) = noted else {
+        return Ok(None);
+    };
+    let edges = list_edges(alloc, readers.as_slice())?;
+    Ok(Some(edges))
 }
 
 // The edges from each process to those that are noted at it.
-fn edges_of(alloc: Global, readers: &[Items<u32>]) -> Result<Items<Edge>, AllocError> {
+fn list_edges(alloc: Global, readers: &[Items<u32>]) -> Result<Items<Edge>, AllocError>
+    requires few { length readers.now < 2 ^ 32 }
+    ensures { IfOk result (λ v. v ≡ listed 0 readers.now) }
+{
     let mut edges = Items::new(alloc);
     for i in 0..readers.len() {
         push_edges(&mut edges, i as u32, readers[i].as_slice())?;
@@ -53,7 +67,9 @@ fn edges_of(alloc: Global, readers: &[Items<u32>]) -> Result<Items<Edge>, AllocE
     Ok(edges)
 }
 
-fn push_edges(edges: &mut Items<Edge>, from: u32, readers: &[u32]) -> Result<(), AllocError> {
+fn push_edges(edges: &mut Items<Edge>, from: u32, readers: &[u32]) -> Result<(), AllocError>
+    ensures { OnOk result (edges.new ≡ edges.old ++ map (edge_to from) readers.now) }
+{
     for to in readers {
         edges.push(Edge { from, to: *to })?;
     }
