@@ -23,6 +23,12 @@
 //! however long it is. Readers go in order, and each is noted at its writers, so that the lists of each
 //! writer ascend by themselves and a reader that is noted already stands last.
 //!
+//! # What is proved
+//!
+//! The graph has the costs that were handed in and exactly the edges of the definition, in its order, and the answer
+//! 'too many' comes exactly past the limit. That no two processes write a common word is required: [`has_one_writer`]
+//! tells it, and whoever cut the words knows it. Left open is want of memory.
+//!
 //! # Cost
 //!
 //! Time is linear in the words that are written, and in the runs of writers in the ranges that are read. Space is two
@@ -35,6 +41,7 @@
 //! ```
 #![tactic(auto)]
 
+mod apart;
 mod fault;
 mod graph;
 mod noted;
@@ -43,6 +50,7 @@ mod ranges;
 mod tests;
 mod writers;
 
+pub use apart::has_one_writer;
 pub use fault::GraphFault;
 pub use graph::graph_of;
 pub use ranges::{Touched, WordRange};

@@ -38,11 +38,14 @@ fn three(alloc: Global) -> Result<Vec<Touched>, AllocError> {
 fn an_edge_from_each_writer(rt: HostRuntime) -> Result<(), Fail> {
     let procs = three(rt.alloc())?;
     let costs = Items::from_slice(rt.alloc(), &[5, 3, 1])?;
-    let graph = graph_of(rt.alloc(), costs, procs.as_slice())?;
-    let edges = graph.edges.as_slice();
-    assert_eq!(rt; edges.len(), 3);
-    assert!(rt; edges[0] == Edge { from: 0, to: 1 });
-    assert!(rt; edges[1] == Edge { from: 0, to: 2 });
-    assert!(rt; edges[2] == Edge { from: 1, to: 2 });
+    assert!(rt; has_one_writer(procs.as_slice()));
+    if costs.len() == procs.len() && has_one_writer(procs.as_slice()) {
+        let graph = graph_of(rt.alloc(), costs, procs.as_slice())?;
+        let edges = graph.edges.as_slice();
+        assert_eq!(rt; edges.len(), 3);
+        assert!(rt; edges[0] == Edge { from: 0, to: 1 });
+        assert!(rt; edges[1] == Edge { from: 0, to: 2 });
+        assert!(rt; edges[2] == Edge { from: 1, to: 2 });
+    }
     Ok(())
 }
