@@ -7,4 +7,5 @@ pub mod Pigeons
 pub mod RunLemmas
 pub mod SerialLemmas
 pub mod SetLemmas
+pub mod SettlingLemmas
 pub mod StallLemmas

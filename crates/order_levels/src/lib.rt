@@ -27,6 +27,14 @@
 //! The walk keeps marks of the nodes that have run and that it has seen, and lists of where the edges to each node
 //! come from. Levels go along the order: each is one more than the greatest of the sources.
 //!
+//! # What is proved
+//!
+//! The settle order, or the loop, is that of the definition, whatever the edges. An order has each node once and each
+//! node after all that it has an edge from; the nodes of a loop have an edge each to the one before it, and the first
+//! to the last, so that there is an order exactly where there is no cycle. A level is the number of edges of some path
+//! to the node, and no path has more. The nodes of a part are the list of the definition, and the answer 'too many'
+//! comes exactly past the limit. Left open is want of memory.
+//!
 //! # Cost
 //!
 //! Time is linear in nodes and edges, but for the scan of the set: nodes squared over 64, which is a million words at

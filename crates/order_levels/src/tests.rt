@@ -1,7 +1,3 @@
-ghost use Rattle.std.specs.Prelude.{◌≡◌};
-ghost use Rattle.std.specs.List.{list_all};
-ghost use Rattle.plan_graph.specs.GraphLaws.{rises};
-
 use super::*;
 use plan_graph::{Edge, Graph, Node, Part};
 use sqlite_items::Items;
@@ -62,19 +58,15 @@ fn numbers_levels_and_nodes(rt: HostRuntime) -> Result<(), Fail> {
     Ok(())
 }
 
-fn rises(edges: &[Edge]) -> bool
-    ensures { result ≡ list_all rises edges.now }
-{
-    edges.iter().all(|e| e.from < e.to)
-}
-
 #[test]
 fn tells_levels(rt: HostRuntime) -> Result<(), Fail> {
     let made = graph_of(rt.alloc(), 4, &[(0, 1), (0, 2), (1, 3), (2, 3)])?;
     let graph = made.ok_or("no graph")?;
-    if rises(graph.edges.as_slice()) {
-        let found = levels(rt.alloc(), &graph)?;
-        assert_eq!(rt; found.as_slice(), [0, 1, 1, 2].as_slice());
-    }
+    let Ok(order) = ready_order(rt.alloc(), &graph) else {
+        return Err("no order".into());
+    };
+    let found = levels(rt.alloc(), &graph)?;
+    assert_eq!(rt; order.as_slice(), [0, 1, 2, 3].as_slice());
+    assert_eq!(rt; found.as_slice(), [0, 1, 1, 2].as_slice());
     Ok(())
 }

@@ -1,7 +1,7 @@
 use Rattle.std.proofs.Common.{◌∙◌, ap}
 use Rattle.order_levels.specs.Sets.{all_below}
 use Rattle.order_levels.proofs.StallLemmas.{all_run_below}
-use Rattle.order_levels.proofs.order.ready_order.Goals as goal
+use Rattle.order_levels.proofs.order.settle.Goals as goal
 
 pub stalled_loop-requires-clause-ran : goal.stalled_loop-requires-clause-ran
 stalled_loop-requires-clause-ran c =
