@@ -1,3 +1,4 @@
+pub mod ApartLemmas
 pub mod EdgeLemmas
 mod Examples
 pub mod NoteLemmas

@@ -244,25 +244,26 @@ same_tests true b there back = sym (there refl)
 same_tests false true there back = back refl
 same_tests false false there back = refl
 
+-- marking leaves a process at each word that it writes, where no other writes it
+is_writer : (procs : List Touched) (i : ℕ) (d : Touched) → length procs < 2 ^ 32 → OneWriter procs → i < length procs → (w : ℕ) → (writer_from 0 NOBODY procs w == i) ≡ has_word_of w (get_or procs i d).writes
+is_writer procs i d few one inside w = ap (λ k. writer_from 0 NOBODY procs w == k) (sym (zero-add i)) ∙ writer_is 0 NOBODY procs w i d one inside (inr (omega arith))
+
+pub marked_at : (procs : List Touched) (of_word run_end : List ℕ) (i : ℕ) (d : Touched) → length procs < 2 ^ 32 → OneWriter procs → WritersAre procs of_word run_end → i < length procs
+    → (w : ℕ) → has_word_of w (get_or procs i d).writes ≡ true → (w < length of_word) × (get_or of_word w 0 ≡ i)
+marked_at procs of_word run_end i d few one are inside w has =
+    let within = word_within w (length of_word) (get_or procs i d).writes (are.within i d inside) has in
+    (within, are.writers w within ∙ eqb-true (writer_from 0 NOBODY procs w) i (is_writer procs i d few one inside w ∙ has))
+
 read_where_met : (procs : List Touched) (of_word run_end : List ℕ) (i : ℕ) (d : Touched) (reads : List WordRange) → length procs < 2 ^ 32 → OneWriter procs → WritersAre procs of_word run_end → i < length procs
     → list_any (any_in_range of_word i) reads ≡ meet_somewhere (get_or procs i d).writes reads
-read_where_met procs of_word run_end i d reads few one are inside = same_tests (list_any (any_in_range of_word i) reads) (meet_somewhere writes reads) there (written_where_met of_word i writes reads written)
+read_where_met procs of_word run_end i d reads few one are inside =
+    same_tests (list_any (any_in_range of_word i) reads) (meet_somewhere (get_or procs i d).writes reads) there (written_where_met of_word i (get_or procs i d).writes reads (marked_at procs of_word run_end i d few one are inside))
   where
-    writes : List WordRange
-    writes = (get_or procs i d).writes
-
-    is_writer : (w : ℕ) → (writer_from 0 NOBODY procs w == i) ≡ has_word_of w writes
-    is_writer w = ap (λ k. writer_from 0 NOBODY procs w == k) (sym (zero-add i)) ∙ writer_is 0 NOBODY procs w i d one inside (inr (omega arith))
-
-    written : (w : ℕ) → has_word_of w writes ≡ true → (w < length of_word) × (get_or of_word w 0 ≡ i)
-    written w has =
-        let within = word_within w (length of_word) writes (are.within i d inside) has in
-        (within, are.writers w within ∙ eqb-true (writer_from 0 NOBODY procs w) i (is_writer w ∙ has))
-
-    there : list_any (any_in_range of_word i) reads ≡ true → meet_somewhere writes reads ≡ true
+    there : list_any (any_in_range of_word i) reads ≡ true → meet_somewhere (get_or procs i d).writes reads ≡ true
     there any =
         let w = word_where_written of_word i reads any in
-        both_meet w.0 writes reads (sym (is_writer w.0) ∙ eq-eqb (writer_from 0 NOBODY procs w.0) i (sym (are.writers w.0 w.1) ∙ w.2)) w.3
+        both_meet w.0 (get_or procs i d).writes reads
+        (sym (is_writer procs i d few one inside w.0) ∙ eq-eqb (writer_from 0 NOBODY procs w.0) i (sym (are.writers w.0 w.1) ∙ w.2)) w.3
 
 -- ---- one reader more
 

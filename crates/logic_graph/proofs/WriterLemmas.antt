@@ -1,10 +1,8 @@
 -- The writer of each word, and where the run of words with one writer ends.
-use Rattle.std.proofs.Common.{◌≡◌, ◌+◌, ◌<◌, ◌≤◌, ◌==◌, ℕ, zero, suc, List, [], ◌∷◌, ◌++◌, length, get_or, set, take, max, min, Bool, true, false, not, cond, ◌&&◌, ◌||◌, nat_lt, nat_le, refl, sym, ap, subst, ◌∙◌, inl, inr, ◌⊎◌, arith, get_or-set_same, get_or-set_other}
-use Rattle.std.specs.List.{list_any, list_all}
-use Rattle.std.proofs.lemmas.Bool.{cases_eq, cases_lt, cases_Bool, eq-eqb, ne_eqb, not-true, and_parts, and_from, or_cases, or_left, or_right, ltb-true, leb-true, lt-ltb, le-ltb, le-leb, lt-leb}
-use Rattle.std.proofs.lemmas.List.{length-take, take_more, get_or-take, get_or_default}
-use Rattle.std.proofs.lemmas.List.Quantifiers.{all_pairs_push}
-use Rattle.std.proofs.lemmas.List.Sums.{AllPass-from_list_all, list_all-from_AllPass}
+use Rattle.std.proofs.Common.{◌≡◌, ◌+◌, ◌<◌, ◌≤◌, ◌==◌, ℕ, zero, suc, List, [], ◌∷◌, ◌++◌, length, get_or, set, take, max, min, Bool, true, false, cond, ◌&&◌, ◌||◌, nat_lt, nat_le, refl, sym, ap, ◌∙◌, inl, inr, ◌⊎◌, arith, get_or-set_same, get_or-set_other}
+use Rattle.std.specs.List.{list_any}
+use Rattle.std.proofs.lemmas.Bool.{cases_eq, cases_lt, cases_Bool, eq-eqb, ne_eqb, and_parts, and_from, or_cases, or_left, or_right, ltb-true, leb-true, lt-ltb, le-ltb, le-leb, lt-leb}
+use Rattle.std.proofs.lemmas.List.{length-take, take_more}
 use Rattle.std.proofs.lemmas.List.Elements.{All-more}
 use Rattle.std.proofs.lemmas.List.Folds.{list_any_more, Any-from_list_any}
 use Rattle.logic_graph.specs.declared.ranges.WordRange.{WordRange}
@@ -208,22 +206,3 @@ run_of_one of_word k end is inside =
       within = omega arith;
       same = λ j low high. let e : j ≡ k = omega arith in ap (λ i. get_or of_word i 0) e;
     }
-
--- ---- no two processes write a common word
-
--- none of the processes before writes a word of one
-pub apart_before : (procs : List Touched) (j : ℕ) (d : Touched) → OneWriter procs → j < length procs → list_all (λ (p : Touched). not (meet_somewhere p.writes (get_or procs j d).writes)) (take j procs) ≡ true
-apart_before procs j d one inside = list_all-from_AllPass (λ (p : Touched). not (meet_somewhere p.writes (get_or procs j d).writes)) (take j procs) each
-  where
-    each : (k : ℕ) (e : Touched) → k < length (take j procs) → not (meet_somewhere (get_or (take j procs) k e).writes (get_or procs j d).writes) ≡ true
-    each k e less =
-        let len = length-take j procs in
-        let low : k < j = omega arith in
-        let same : get_or (take j procs) k e ≡ get_or procs k d = get_or-take j procs k e low ∙ get_or_default procs k e d (omega arith) in
-        ap (λ (p : Touched). not (meet_somewhere p.writes (get_or procs j d).writes)) same ∙ ap not (one k j d low inside)
-
-pub apart_more : (procs : List Touched) (j : ℕ) (d : Touched) → OneWriter (take j procs) → j < length procs → list_all (λ (p : Touched). not (meet_somewhere p.writes (get_or procs j d).writes)) (take j procs) ≡ true → OneWriter (take (j + 1) procs)
-apart_more procs j d one inside apart =
-    subst (λ (ps : List Touched). OneWriter ps) (sym (take_more procs j d inside))
-    (all_pairs_push (λ (p q : Touched). meet_somewhere p.writes q.writes ≡ false) (take j procs) (get_or procs j d) one
-    (λ k e less. not-true (meet_somewhere (get_or (take j procs) k e).writes (get_or procs j d).writes) (AllPass-from_list_all (λ (p : Touched). not (meet_somewhere p.writes (get_or procs j d).writes)) (take j procs) apart k e less)))

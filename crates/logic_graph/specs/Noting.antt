@@ -1,5 +1,5 @@
 -- How the code finds the edges: the writer of each word, and the readers noted at each writer.
-use Rattle.std.specs.Prelude.{◌≡◌, ◌<◌, ◌≤◌, ℕ, zero, suc, ◌-◌, ◌^◌, ◌==◌, nat_lt, min, Bool, not, ◌&&◌, ◌||◌, List, [], ◌∷◌, ◌++◌, map, fold, length, slice_index, slice_index_or, slice_set, sum_by, if◌then◌else◌}
+use Rattle.std.specs.Prelude.{◌≡◌, ◌<◌, ◌≤◌, ℕ, zero, suc, ◌-◌, ◌^◌, ◌==◌, nat_lt, min, Bool, true, not, ◌&&◌, ◌||◌, List, [], ◌∷◌, ◌++◌, map, fold, length, slice_index, slice_index_or, slice_set, sum_by, if◌then◌else◌}
 use Rattle.std.specs.List.{list_any, All}
 use Rattle.plan_graph.specs.declared.node.Edge.{Edge}
 use Rattle.logic_graph.specs.declared.ranges.WordRange.{WordRange}
@@ -38,6 +38,13 @@ pub record WritersAre (procs : List Touched) (of_word run_end : List ℕ) : Type
   pub within : AllEndWithin (length of_word) procs
   pub writers : (w : ℕ) → w < length of_word → slice_index of_word w ≡ writer_from 0 NOBODY procs w
   pub runs : RunsEnd of_word run_end
+
+-- a process is the writer of all words of these ranges
+abbrev pub Keeps : List ℕ → ℕ → List WordRange → Type 0
+Keeps of_word writer ranges = (w : ℕ) → has_word_of w ranges ≡ true → slice_index of_word w ≡ writer
+
+abbrev pub AllKeep : List ℕ → List Touched → Type 0
+AllKeep of_word procs = (i : ℕ) (d : Touched) → i < length procs → Keeps of_word i (slice_index_or procs i d).writes
 
 -- ---- the readers of each writer
 

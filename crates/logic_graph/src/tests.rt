@@ -38,8 +38,9 @@ fn three(alloc: Global) -> Result<Vec<Touched>, AllocError> {
 fn an_edge_from_each_writer(rt: HostRuntime) -> Result<(), Fail> {
     let procs = three(rt.alloc())?;
     let costs = Items::from_slice(rt.alloc(), &[5, 3, 1])?;
-    assert!(rt; has_one_writer(procs.as_slice()));
-    if costs.len() == procs.len() && has_one_writer(procs.as_slice()) {
+    let apart = has_one_writer(rt.alloc(), procs.as_slice())?;
+    assert!(rt; apart);
+    if costs.len() == procs.len() && apart {
         let graph = graph_of(rt.alloc(), costs, procs.as_slice())?;
         let edges = graph.edges.as_slice();
         assert_eq!(rt; edges.len(), 3);
