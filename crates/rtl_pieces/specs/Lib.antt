@@ -1,0 +1,14 @@
+pub mod Near
+pub mod Line
+pub mod Named
+pub mod Reads
+pub mod ReadsLaws
+pub mod Writes
+pub mod WritesLaws
+pub mod Ranges
+pub mod Bits
+pub mod Owned
+pub mod Drivers
+pub mod Words
+pub mod Layouts
+pub mod Cover

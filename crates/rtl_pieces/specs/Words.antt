@@ -1,0 +1,116 @@
+-- The words of a design: how its variables and the elements of its memories are cut into pieces with one writer each.
+use Rattle.std.specs.Prelude.{ℕ, zero, suc, ◌+◌, ◌-◌, ◌<◌, ◌≤◌, ◌≡◌, Bool, true, false, ◌||◌, if◌then◌else◌, not, ◌==◌, nat_lt, List, [], ◌∷◌, ◌++◌, map, length, Option, Some, None, slice_get, ⊤}
+use Rattle.rtl_ir.specs.declared.design.Proc.{Proc}
+use Rattle.rtl_ir.specs.declared.design.ProcKind.{ProcKind}
+use Rattle.rtl_ir.specs.declared.design.ProcKind.TheVariants.{Comb, Clocked}
+use Rattle.rtl_pieces.specs.declared.bit.BitRef.{BitRef}
+use Rattle.rtl_pieces.specs.declared.item.Item.{Item}
+use Rattle.rtl_pieces.specs.declared.pieces.Piece.{Piece}
+use Rattle.rtl_pieces.specs.declared.layout.Word.{Word}
+use Rattle.rtl_pieces.specs.Line.{Line, place_in, place_of}
+use Rattle.rtl_pieces.specs.Bits.{writes}
+
+-- ---- the writer of a bit: the first process that writes it, of so many from a number on
+
+abbrev pub first_writer : (ℕ → ℕ → Bool) → ℕ → ℕ → ℕ → Option ℕ
+first_writer writes number zero b = None
+first_writer writes number (suc more) b = if writes number b then Some number else first_writer writes (suc number) more b
+
+abbrev pub writer_of : Line → List Proc → ℕ → Option ℕ
+writer_of line procs b = first_writer (writes line procs) 0 (length procs) b
+
+-- what a list of writers tells of a place; past its end there is none
+abbrev pub flat : Option (Option ℕ) → Option ℕ
+flat (Some writer) = writer
+flat None = None
+
+abbrev pub noted : List (Option ℕ) → ℕ → Option ℕ
+noted writers b = flat (slice_get writers b)
+
+abbrev pub in_list : List (Option ℕ) → ℕ → Bool
+in_list writers b = nat_lt b (length writers)
+
+-- a process is noted where it writes and no other is noted
+abbrev pub noted_also : Option ℕ → Bool → ℕ → Option ℕ
+noted_also (Some before) writes p = Some before
+noted_also None writes p = if writes then Some p else None
+
+abbrev pub same_writer : Option ℕ → Option ℕ → Bool
+same_writer (Some p) (Some q) = p == q
+same_writer None None = true
+same_writer _ _ = false
+
+-- ---- pieces: a bit begins one where it is the lowest of its element, or where in some element it has another writer than the bit below it
+
+-- in some of so many elements from a number on
+abbrev pub is_cut : (ℕ → Option ℕ) → Item → ℕ → ℕ → ℕ → Bool
+is_cut writer item bit element zero = false
+is_cut writer item bit element (suc more) = not (same_writer (writer (place_in item element bit)) (writer (place_in item element bit - 1))) || is_cut writer item bit (suc element) more
+
+-- the piece that begins at a bit and has so many bits up to here, and the pieces of so many bits after it
+abbrev pub pieces_from : (ℕ → Bool) → ℕ → ℕ → ℕ → List Piece
+pieces_from cut from len zero = record { bit = from; len = len } ∷ []
+pieces_from cut from len (suc more) = if cut (from + len) then record { bit = from; len = len } ∷ pieces_from cut (from + len) 1 more else pieces_from cut from (suc len) more
+
+-- all elements of a memory are cut at the same places
+abbrev pub pieces_of : (ℕ → Option ℕ) → Item → List Piece
+pieces_of writer item = pieces_from (λ bit. is_cut writer item bit 0 item.elements) 0 1 (item.width - 1)
+
+-- ---- words
+
+abbrev pub word_of : Bool → ℕ → ℕ → Piece → Word
+word_of mem item element piece = record { holds = record { mem = mem; item = item; element = element; bit = piece.bit }; len = piece.len; shadow = false }
+
+-- of so many elements from a number on, each with its pieces
+abbrev pub element_words : Bool → ℕ → List Piece → ℕ → ℕ → List Word
+element_words mem item pieces element zero = []
+element_words mem item pieces element (suc more) = map (word_of mem item element) pieces ++ element_words mem item pieces (suc element) more
+
+abbrev pub item_words : (ℕ → Option ℕ) → Bool → ℕ → Item → List Word
+item_words writer mem number item = element_words mem number (pieces_of writer item) 0 item.elements
+
+-- of the variables and the memories from a number on, where there are so many variables
+abbrev pub words_from : (ℕ → Option ℕ) → ℕ → ℕ → List Item → List Word
+words_from writer vars number [] = []
+words_from writer vars number (item ∷ more) =
+    (if nat_lt number vars then item_words writer false number item else item_words writer true (number - vars) item) ++ words_from writer vars (suc number) more
+
+-- it belongs to the table, and holds no bit
+abbrev pub table_word : Word
+table_word = record { holds = record { mem = false; item = 0; element = 0; bit = 0 }; len = 0; shadow = false }
+
+-- ---- shadows: one for each word that a clocked process writes
+
+abbrev pub is_clocked_kind : ProcKind → Bool
+is_clocked_kind Comb = false
+is_clocked_kind (Clocked events) = true
+
+abbrev pub is_clocked_proc : Option Proc → Bool
+is_clocked_proc (Some p) = is_clocked_kind p.kind
+is_clocked_proc None = false
+
+abbrev pub is_clocked : List Proc → Option ℕ → Bool
+is_clocked procs (Some p) = is_clocked_proc (slice_get procs p)
+is_clocked procs None = false
+
+abbrev pub shadow_of : Word → Word
+shadow_of word = record { holds = word.holds; len = word.len; shadow = true }
+
+abbrev pub shadows_of : Line → List Proc → List Word → List Word
+shadows_of line procs [] = []
+shadows_of line procs (word ∷ more) =
+    if is_clocked procs (writer_of line procs (place_of line word.holds)) then shadow_of word ∷ shadows_of line procs more else shadows_of line procs more
+
+-- ---- the layout: word 0, the pieces, the shadows
+
+abbrev pub pieces_in : Line → List Proc → List Word
+pieces_in line procs = words_from (writer_of line procs) line.vars 0 line.items
+
+abbrev pub words_in : Line → List Proc → List Word
+words_in line procs = table_word ∷ (pieces_in line procs ++ shadows_of line procs (pieces_in line procs))
+
+-- ---- what the pieces are: they stand one behind the other, from a place on and up to another, so each bit is in exactly one
+
+abbrev pub Tiles : Line → ℕ → ℕ → List Word → Type 0
+Tiles line from to [] = from ≡ to
+Tiles line from to (word ∷ more) = (place_of line word.holds ≡ from) × (1 ≤ word.len) × Tiles line (from + word.len) to more
