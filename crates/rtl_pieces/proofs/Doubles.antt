@@ -1,5 +1,5 @@
 -- From the least bit with two writers, and its first two writers, to what a fault tells.
-use Rattle.std.proofs.Common.{◌≡◌, ℕ, suc, ◌<◌, ◌≤◌, ⊥, Bool, true, false, ◌||◌, ◌&&◌, eqb, List, [], ◌∷◌, map, refl, sym, ap, ◌∙◌, subst, arith, inl, inr}
+use Rattle.std.proofs.Common.{◌≡◌, ℕ, suc, ◌<◌, ◌≤◌, Bool, true, false, ◌||◌, ◌&&◌, eqb, List, [], ◌∷◌, map, refl, sym, ap, ◌∙◌, subst, arith, inl, inr}
 use Rattle.std.proofs.lemmas.Bool.{cases_order, cases_lt, both_ways}
 use Rattle.rtl_pieces.specs.declared.bit.BitRef.{BitRef}
 use Rattle.rtl_pieces.specs.declared.range.BitRange.{BitRange}

@@ -92,8 +92,11 @@ merged_ascends low l (r ∷ more) h s =
 
 -- ---- as the code puts them together: after a sort, with nothing before the first
 
+empty_has : (b : ℕ) → inside b empty ≡ false
+empty_has b = grind (arith, nat_tests)
+
 pub merged_all_has : (b : ℕ) (rs : List BitRange) → IsNonDecreasingBy first_place rs → has b (merged empty rs) ≡ has b rs
-merged_all_has b rs h = merged_has b empty rs (sorted_from rs h)
+merged_all_has b rs h = merged_has b empty rs (sorted_from rs h) ∙ ap (λ x. x || has b rs) (empty_has b)
 
 pub merged_all_ascends : (rs : List BitRange) → IsNonDecreasingBy first_place rs → Ascending 0 (merged empty rs)
 merged_all_ascends rs h = merged_ascends 0 empty rs (omega arith) (sorted_from rs h)
@@ -103,11 +106,11 @@ merged_all_ascends rs h = merged_ascends 0 empty rs (omega arith) (sorted_from r
 below_one : (b end : ℕ) (r : BitRange) → inside b (record { from = r.from; to = min r.to end }) ≡ (nat_lt b end && inside b r)
 below_one b end r = grind (arith, nat_tests)
 
-and_or : (x y z : Bool) → ((x && y) || (x && z)) ≡ (x && (y || z))
+pub and_or : (x y z : Bool) → ((x && y) || (x && z)) ≡ (x && (y || z))
 and_or true y z = refl
 and_or false y z = refl
 
-and_none : (x : Bool) → false ≡ (x && false)
+pub and_none : (x : Bool) → false ≡ (x && false)
 and_none true = refl
 and_none false = refl
 

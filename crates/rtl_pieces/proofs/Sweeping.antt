@@ -1,5 +1,5 @@
 -- The sweep finds the least bit with two writers, where there is one.
-use Rattle.std.proofs.Common.{◌≡◌, ℕ, suc, ◌<◌, ◌≤◌, ⊥, Bool, true, false, cond, not, ◌||◌, ◌&&◌, ltb, leb, eqb, List, [], ◌∷◌, ◌++◌, length, Option, Some, None, refl, sym, ap, ◌∙◌, arith, inl, inr}
+use Rattle.std.proofs.Common.{◌≡◌, ℕ, suc, ◌<◌, ◌≤◌, Bool, true, false, cond, not, ◌||◌, ◌&&◌, ltb, leb, eqb, List, [], ◌∷◌, ◌++◌, length, Option, Some, None, refl, sym, ap, ◌∙◌, arith, inl, inr}
 use Rattle.std.specs.Prelude.{if◌then◌else◌, nat_le, nat_lt, ⊤}
 use Rattle.std.specs.List.{list_any}
 use Rattle.std.specs.List.Sorted.{IsNonDecreasingBy}
@@ -27,10 +27,10 @@ abbrev with_one : (ℕ → ℕ → Bool) → OwnedRange → ℕ → ℕ → Bool
 with_one done o p b = done p b || owns p b o
 
 -- what is known of those before: no bit has two of them, none reaches past a place, and one has all from a place up to there
-record Swept (done : ℕ → ℕ → Bool) (low reach proc : ℕ) : Type 0 where
-  single : (b p q : ℕ) → done p b ≡ true → done q b ≡ true → p ≡ q
-  reaches : (b p : ℕ) → done p b ≡ true → b < reach
-  owner : (b : ℕ) → low ≤ b → b < reach → done proc b ≡ true
+pub record Swept (done : ℕ → ℕ → Bool) (low reach proc : ℕ) : Type 0 where
+  pub single : (b p q : ℕ) → done p b ≡ true → done q b ≡ true → p ≡ q
+  pub reaches : (b p : ℕ) → done p b ≡ true → b < reach
+  pub owner : (b : ℕ) → low ≤ b → b < reach → done proc b ≡ true
 
 abbrev pub Outcome : (ℕ → ℕ → Bool) → Option ℕ → Type 0
 Outcome writes None = (b : ℕ) → Single writes b
@@ -58,7 +58,7 @@ shift done o more p b = elim (done p b) as (λ d. ((d || owns p b o) || owned_by
 
 -- the same of two tests that agree
 move : (f g : ℕ → ℕ → Bool) → ((p b : ℕ) → f p b ≡ g p b) → (found : Option ℕ) → Outcome f found → Outcome g found
-move f g same None h b p q u v = h b p q (same p b ∙ u) (same q b ∙ v)
+move f g same None h = λ b p q u v. h b p q (same p b ∙ u) (same q b ∙ v)
 move f g same (Some b) h = record {
   first = h.first;
   second = h.second;
@@ -161,7 +161,7 @@ step done reach proc o more true false true e f g none shared further within = l
 step done reach proc o more true false false e f g none shared further within = within (sym f) (ltb-false reach o.range.to (sym g))
 
 pub sweep_finds : (done : ℕ → ℕ → Bool) (low reach proc : ℕ) → Swept done low reach proc → (rest : List OwnedRange) → Sorted low rest → Outcome (with_these done rest) (sweep reach proc rest)
-sweep_finds done low reach proc swept [] s b p q u v =
+sweep_finds done low reach proc swept [] s = λ b p q u v.
     let strip : (p : ℕ) → (done p b || false) ≡ true → done p b ≡ true = λ p e. elim (or_cases (done p b) false e) [ inl k ↦ k | inr k ↦ absurd (false≢true k) ] in
     swept.single b p q (strip p u) (strip q v)
 sweep_finds done low reach proc swept (o ∷ more) s =

@@ -11,7 +11,7 @@ use Rattle.rtl_pieces.specs.Line.{inside, has}
 use Rattle.rtl_pieces.specs.Ranges.{Ascending, AllBelow, settled, after, left, minus}
 use Rattle.rtl_pieces.proofs.Merging.{ascending_weaken, settled_has, settled_ascends, settled_within}
 
-range : ℕ → ℕ → BitRange
+abbrev range : ℕ → ℕ → BitRange
 range from to = record { from = from; to = to }
 
 -- a range has no bit below its first place, and none from its last place on
@@ -53,14 +53,12 @@ after_ascends low place (r ∷ more) s =
 -- before, in and after the first of the others
 split : (b from to : ℕ) (r : BitRange) (rest : Bool) → r.from < r.to → r.from < to → (b < r.from → rest ≡ false)
     → (inside b (range from r.from) || (inside b (range (max from r.to) to) && not rest)) ≡ (inside b (range from to) && not (inside b r || rest))
-unfolding range
 split b from to r true some h none = grind (arith, nat_tests)
 split b from to r false some h none = grind (arith, nat_tests)
 
 -- the others begin where it has ended
 kept : (b from to : ℕ) (r : BitRange) (rest : Bool) → to ≤ r.from → (b < r.from → rest ≡ false)
     → inside b (range from to) ≡ (inside b (range from to) && not (inside b r || rest))
-unfolding range
 kept b from to r true h none = grind (arith, nat_tests)
 kept b from to r false h none = grind (arith, nat_tests)
 
@@ -80,20 +78,17 @@ and_true true = refl
 and_true false = refl
 
 pub left_has : (b from to : ℕ) (low : ℕ) (rs : List BitRange) → Ascending low rs → has b (left from to rs) ≡ (inside b (range from to) && not (has b rs))
-unfolding range
 left_has b from to low [] s = settled_has b (range from to) ∙ and_true (inside b (range from to))
 left_has b from to low (r ∷ more) s = left_has_if b from to r more (ltb r.from to) refl s.1 s.2 (left_has b (max from r.to) to (suc r.to) more s.2)
 
 left_ascends_if : (low from to : ℕ) (r : BitRange) (more ys : List BitRange) (t : Bool) → low ≤ from → low ≤ suc to → Ascending (suc to) ys
     → t ≡ ltb r.from to → (r.from < to → Ascending (suc r.from) (left (max from r.to) to more ++ ys)) → Ascending low (left (max from r.to) to more ++ ys)
     → Ascending low ((if t then settled (range from r.from) ++ left (max from r.to) to more else settled (range from to)) ++ ys)
-unfolding range
 left_ascends_if low from to r more ys true h k s e one two = rw append_assoc (settled_ascends low (range from r.from) (left (max from r.to) to more ++ ys) h (one (ltb-true r.from to (sym e))) two)
 left_ascends_if low from to r more ys false h k s e one two = settled_ascends low (range from to) ys h s (ascending_weaken low (suc to) ys k s)
 
 -- what follows the range may follow what is left of it
 pub left_ascends : (low from to high : ℕ) (rs ys : List BitRange) → low ≤ from → low ≤ suc to → Ascending high rs → Ascending (suc to) ys → Ascending low (left from to rs ++ ys)
-unfolding range
 left_ascends low from to high [] ys h k o s = settled_ascends low (range from to) ys h s (ascending_weaken low (suc to) ys k s)
 left_ascends low from to high (r ∷ more) ys h k o s =
     left_ascends_if low from to r more ys (ltb r.from to) h k s refl (λ below. left_ascends (suc r.from) (max from r.to) to (suc r.to) more ys (omega (arith, o.1)) (omega arith) o.2 s) (left_ascends low (max from r.to) to (suc r.to) more ys (omega arith) k o.2 s)
@@ -111,7 +106,6 @@ gone : (x y z w : Bool) → x ≡ false → y ≡ false → ((x || y) && not z) 
 gone x y z w h k = ap (λ t. (t || y) && not z) h ∙ ap (λ t. t && not z) k ∙ sym (ap (λ t. (t || y) && not w) h ∙ ap (λ t. t && not w) k)
 
 pub minus_has : (b low high : ℕ) (rs others : List BitRange) → Ascending low rs → Ascending high others → has b (minus rs others) ≡ (has b rs && not (has b others))
-unfolding range
 minus_has b low high [] others s o = refl
 minus_has b low high (r ∷ more) others s o =
     let rest = after r.from others in
@@ -136,14 +130,12 @@ minus_ascends low high (r ∷ more) others s o =
 
 left_within_if : (from to end : ℕ) (r : BitRange) (more ys : List BitRange) (t : Bool) → t ≡ ltb r.from to → to ≤ end → AllBelow end ys → AllBelow end (left (max from r.to) to more ++ ys)
     → AllBelow end ((if t then settled (range from r.from) ++ left (max from r.to) to more else settled (range from to)) ++ ys)
-unfolding range
 left_within_if from to end r more ys true e h s one =
     let k : r.from < to = ltb-true r.from to (sym e) in
     rw append_assoc (settled_within end (range from r.from) (left (max from r.to) to more ++ ys) (omega arith) one)
 left_within_if from to end r more ys false e h s one = settled_within end (range from to) ys h s
 
 left_within : (from to end : ℕ) (rs ys : List BitRange) → to ≤ end → AllBelow end ys → AllBelow end (left from to rs ++ ys)
-unfolding range
 left_within from to end [] ys h s = settled_within end (range from to) ys h s
 left_within from to end (r ∷ more) ys h s = left_within_if from to end r more ys (ltb r.from to) refl h s (left_within (max from r.to) to end more ys h s)
 

@@ -84,7 +84,9 @@ module _ (line : Line) (mem : Bool) (k : ℕ) (item : Item) (here : items_in lin
   pub item_tiles : (writer : ℕ → Option ℕ) → 1 ≤ item.width → Tiles line item.first (item.first + size_of item) (item_words writer mem k item)
   item_tiles writer some =
       let e : place_in item 0 0 ≡ item.first = omega arith in
-      let f : place_in item (0 + item.elements) 0 ≡ item.first + size_of item = ap (λ (n : ℕ). place_in item n 0) (omega arith) ∙ omega arith in
+      let z : 0 + item.elements ≡ item.elements = omega arith in
+      let g : place_in item item.elements 0 ≡ item.first + size_of item = omega arith in
+      let f : place_in item (0 + item.elements) 0 ≡ item.first + size_of item = ap (λ (n : ℕ). place_in item n 0) z ∙ g in
       subst (λ (n : ℕ). Tiles line n (item.first + size_of item) (item_words writer mem k item)) e
       (subst (λ (n : ℕ). Tiles line (place_in item 0 0) n (item_words writer mem k item)) f
       (elements_tile (λ bit. is_cut writer item bit 0 item.elements) 0 item.elements some))
@@ -92,13 +94,13 @@ module _ (line : Line) (mem : Bool) (k : ℕ) (item : Item) (here : items_in lin
 -- ---- all of them
 
 near_width : (item : Item) → is_near item ≡ true → 1 ≤ item.width
-near_width item h = leb-true 1 item.width (and_parts (leb 1 item.width) (leb item.width WIDTH) (and_parts (leb item.first (2 ^ 120)) (leb 1 item.width && leb item.width WIDTH) h).1).0
+near_width item h = leb-true 1 item.width (and_parts (leb 1 item.width) (leb item.width WIDTH) (and_parts (leb item.first (2 ^ 124)) (leb 1 item.width && leb item.width WIDTH) h).1).0
 
 -- the item of a number, by the list that it stands in
-in_vars : (line : Line) (number : ℕ) (item : Item) → slice_get line.items number ≡ Some item → number < line.vars → items_in line false number ≡ item
+pub in_vars : (line : Line) (number : ℕ) (item : Item) → slice_get line.items number ≡ Some item → number < line.vars → items_in line false number ≡ item
 in_vars line number item at h = cond-true (nat_lt number line.vars) (item_or_none (slice_get line.items number)) no_item (lt-ltb number line.vars h) ∙ ap item_or_none at
 
-in_mems : (line : Line) (number : ℕ) (item : Item) → slice_get line.items number ≡ Some item → line.vars ≤ number → items_in line true (number - line.vars) ≡ item
+pub in_mems : (line : Line) (number : ℕ) (item : Item) → slice_get line.items number ≡ Some item → line.vars ≤ number → items_in line true (number - line.vars) ≡ item
 in_mems line number item at h =
     let e : line.vars + (number - line.vars) ≡ number = omega arith in
     ap (λ (n : ℕ). item_or_none (slice_get line.items n)) e ∙ ap item_or_none at
@@ -130,18 +132,18 @@ pieces_tile line procs placed near =
 
 -- ---- how few words there can be: none has more bits than an element
 
-abbrev Short : ℕ → List Word → Type 0
+abbrev pub Short : ℕ → List Word → Type 0
 Short top [] = ⊤
 Short top (word ∷ more) = (word.len ≤ top) × Short top more
 
-short_length : (line : Line) (top a b : ℕ) (words : List Word) → Tiles line a b words → Short top words → b ≤ a + length words * top
+pub short_length : (line : Line) (top a b : ℕ) (words : List Word) → Tiles line a b words → Short top words → b ≤ a + length words * top
 short_length line top a b [] h s = omega arith
 short_length line top a b (word ∷ more) h s =
     let rest : b ≤ a + word.len + length more * top = short_length line top (a + word.len) b more h.2 s.1 in
     let e : suc (length more) * top ≡ top + length more * top = grind arith in
     omega (arith, s.0)
 
-short_append : (top : ℕ) (xs ys : List Word) → Short top xs → Short top ys → Short top (xs ++ ys)
+pub short_append : (top : ℕ) (xs ys : List Word) → Short top xs → Short top ys → Short top (xs ++ ys)
 short_append top [] ys h k = k
 short_append top (word ∷ more) ys h k = (h.0, short_append top more ys h.1 k)
 
@@ -152,7 +154,7 @@ pieces_short top mem k element cut from len (suc more) h =
     (λ e. (omega arith, pieces_short top mem k element cut (from + len) 1 more (omega arith)))
     (λ e. pieces_short top mem k element cut from (suc len) more (omega arith))
 
-elements_short : (top : ℕ) (mem : Bool) (k : ℕ) (cut : ℕ → Bool) (width element more : ℕ) → 1 ≤ width → width ≤ top → Short top (element_words mem k (pieces_from cut 0 1 (width - 1)) element more)
+pub elements_short : (top : ℕ) (mem : Bool) (k : ℕ) (cut : ℕ → Bool) (width element more : ℕ) → 1 ≤ width → width ≤ top → Short top (element_words mem k (pieces_from cut 0 1 (width - 1)) element more)
 elements_short top mem k cut width element zero some h = tt
 elements_short top mem k cut width element (suc more) some h =
     short_append top (map (word_of mem k element) (pieces_from cut 0 1 (width - 1))) (element_words mem k (pieces_from cut 0 1 (width - 1)) (suc element) more)

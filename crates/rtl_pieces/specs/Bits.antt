@@ -1,5 +1,5 @@
 -- What a process reads and writes: bits of the design, by their places in its line.
-use Rattle.std.specs.Prelude.{ℕ, suc, ◌≤◌, Bool, true, false, ◌&&◌, not, ◌≡◌, ◌==◌, ⊤, nat_lt, List, [], ◌∷◌, Option, Some, None, slice_get}
+use Rattle.std.specs.Prelude.{ℕ, zero, suc, ◌-◌, ◌++◌, ◌≤◌, Bool, true, false, ◌&&◌, not, ◌≡◌, ◌==◌, ⊤, nat_lt, List, [], ◌∷◌, Option, Some, None, slice_get}
 use Rattle.rtl_ir.specs.declared.design.Proc.{Proc}
 use Rattle.rtl_ir.specs.declared.whole.Design.{Design}
 use Rattle.std.specs.List.{list_any}
@@ -38,6 +38,15 @@ line_in design = line_of design.vars design.mems
 -- whether one of them stands at a place
 abbrev pub lists : Line → List BitRef → ℕ → Bool
 lists line bits b = list_any (λ bit. place_of line bit == b) bits
+
+-- so many places from one on, and those of ranges, one range after another
+abbrev pub places_from : ℕ → ℕ → List ℕ
+places_from place zero = []
+places_from place (suc more) = place ∷ places_from (suc place) more
+
+abbrev pub places_in : List BitRange → List ℕ
+places_in [] = []
+places_in (r ∷ more) = places_from r.from (r.to - r.from) ++ places_in more
 
 -- they are bits of the design in the order of their places, none before a place and none twice
 abbrev pub Rises : Line → ℕ → List BitRef → Type 0

@@ -1,5 +1,5 @@
 -- What a fault of drivers tells: the least bit that two processes write, and the first two that write it.
-use Rattle.std.specs.Prelude.{ℕ, ◌<◌, ◌≡◌, ⊥, Bool, true, false, ⊤}
+use Rattle.std.specs.Prelude.{ℕ, ◌<◌, ◌≡◌, Bool, true, false, ⊤}
 use Rattle.rtl_pieces.specs.declared.bit.BitRef.{BitRef}
 use Rattle.rtl_pieces.specs.declared.fault.DriverFault.{DriverFault}
 use Rattle.rtl_pieces.specs.declared.fault.DriverFault.TheVariants.{NoMemory, MultipleDrivers}
@@ -15,5 +15,5 @@ pub record IsDouble (line : Line) (writes : ℕ → ℕ → Bool) (bit : BitRef)
   pub least : (b : ℕ) → b < place_of line bit → Single writes b
 
 abbrev pub IsFault : Line → (ℕ → ℕ → Bool) → DriverFault → Type 0
-IsFault line writes NoMemory = ⊤
+IsFault line writes (NoMemory error) = ⊤
 IsFault line writes (MultipleDrivers bit first second) = IsDouble line writes bit first second

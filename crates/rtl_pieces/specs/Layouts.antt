@@ -4,5 +4,5 @@ use Rattle.rtl_pieces.specs.declared.fault.CutFault.{CutFault}
 use Rattle.rtl_pieces.specs.declared.fault.CutFault.TheVariants.{NoMemory, TooMany}
 
 abbrev pub ManyIf : Type 0 → CutFault → Type 0
-ManyIf many NoMemory = ⊤
+ManyIf many (NoMemory error) = ⊤
 ManyIf many TooMany = many

@@ -4,4 +4,4 @@ use Rattle.vs_base.specs.declared.limits.TheConstants.{WIDTH}
 use Rattle.rtl_pieces.specs.declared.item.Item.{Item}
 
 abbrev pub is_near : Item → Bool
-is_near item = nat_le item.first (2 ^ 120) && (nat_le 1 item.width && nat_le item.width WIDTH)
+is_near item = nat_le item.first (2 ^ 124) && (nat_le 1 item.width && nat_le item.width WIDTH)

@@ -1,5 +1,5 @@
 -- Ranges with the processes that write them.
-use Rattle.std.specs.Prelude.{ℕ, suc, ◌<◌, ◌≤◌, min, ◌≡◌, ⊥, Bool, true, false, if◌then◌else◌, ◌&&◌, not, ◌==◌, nat_le, nat_lt, List, [], ◌∷◌, Option, Some, None, ⊤}
+use Rattle.std.specs.Prelude.{ℕ, suc, ◌<◌, ◌≤◌, min, ◌≡◌, Bool, true, false, if◌then◌else◌, ◌&&◌, not, ◌==◌, nat_le, nat_lt, List, [], ◌∷◌, Option, Some, None, ⊤}
 use Rattle.std.specs.List.{list_any}
 use Rattle.rtl_pieces.specs.declared.owned.OwnedRange.{OwnedRange}
 use Rattle.rtl_pieces.specs.declared.range.BitRange.{BitRange}
@@ -22,6 +22,19 @@ owns p b o = (o.proc == p) && inside b o.range
 
 abbrev pub owned_by : ℕ → ℕ → List OwnedRange → Bool
 owned_by p b all = list_any (owns p b) all
+
+-- a number that may be there, or the process where it is the lesser, has a bit and is no lower than a number
+abbrev pub with_owned : ℕ → ℕ → Option ℕ → OwnedRange → Option ℕ
+with_owned least b found o = if nat_le least o.proc && owns o.proc b o then Some (lesser found o.proc) else found
+
+abbrev pub least_of : ℕ → ℕ → Option ℕ → List OwnedRange → Option ℕ
+least_of least b found [] = found
+least_of least b found (o ∷ more) = least_of least b (with_owned least b found o) more
+
+-- the least from a number on that passes, and none where none does
+abbrev pub IsLeast : (ℕ → Bool) → ℕ → Option ℕ → Type 0
+IsLeast passes least None = (p : ℕ) → least ≤ p → passes p ≡ false
+IsLeast passes least (Some p) = (least ≤ p) × (passes p ≡ true) × ((q : ℕ) → least ≤ q → q < p → passes q ≡ false)
 
 abbrev pub Sorted : ℕ → List OwnedRange → Type 0
 Sorted low [] = ⊤

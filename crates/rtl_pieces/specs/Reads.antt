@@ -58,12 +58,12 @@ by_address item (Some address) select = by_select item address select
 by_address item None select = whole_item item
 
 -- a variable has no address
-abbrev pub by_element : Item → Option (Option ℤ) → Option (Option Part) → BitRange
-by_element item (Some address) select = by_address item address select
-by_element item None select = by_select item item.low select
+abbrev pub address_in : Item → Option (Option ℤ) → Option ℤ
+address_in item (Some address) = address
+address_in item None = Some item.low
 
 abbrev pub bits_by : Item → Bool → Option (Option ℤ) → Option (Option Part) → BitRange
-bits_by item whole element select = if whole then whole_item item else by_element item element select
+bits_by item whole element select = if whole then whole_item item else by_address item (address_in item element) select
 
 -- ---- one layer, over what is known of its parts
 
@@ -79,8 +79,11 @@ taken_or_none None = nothing_more
 abbrev pub constant_of : Bool → Number → Option ℤ
 constant_of signed value = if nat_le value.width WIDTH then Some (reading signed value) else None
 
+abbrev pub part : ℤ → ℕ → Bool → Part
+part at width down = record { at = at; width = width; down = down }
+
 abbrev pub part_by : Option ℤ → ℕ → Bool → Option Part
-part_by (Some at) width down = Some (record { at = at; width = width; down = down })
+part_by (Some at) width down = Some (part at width down)
 part_by None width down = None
 
 abbrev pub of_parts : Notes → Seen

@@ -52,6 +52,11 @@ abbrev pub pieces_from : (ℕ → Bool) → ℕ → ℕ → ℕ → List Piece
 pieces_from cut from len zero = record { bit = from; len = len } ∷ []
 pieces_from cut from len (suc more) = if cut (from + len) then record { bit = from; len = len } ∷ pieces_from cut (from + len) 1 more else pieces_from cut from (suc len) more
 
+-- the piece from a bit up to another, where the element is cut there
+abbrev pub piece_if : Bool → ℕ → ℕ → List Piece
+piece_if true from bit = record { bit = from; len = bit - from } ∷ []
+piece_if false from bit = []
+
 -- all elements of a memory are cut at the same places
 abbrev pub pieces_of : (ℕ → Option ℕ) → Item → List Piece
 pieces_of writer item = pieces_from (λ bit. is_cut writer item bit 0 item.elements) 0 1 (item.width - 1)
@@ -96,10 +101,15 @@ is_clocked procs None = false
 abbrev pub shadow_of : Word → Word
 shadow_of word = record { holds = word.holds; len = word.len; shadow = true }
 
+-- the shadow of a word, where there is one
+abbrev pub shadow_if : Bool → Word → List Word
+shadow_if true word = shadow_of word ∷ []
+shadow_if false word = []
+
 abbrev pub shadows_of : Line → List Proc → List Word → List Word
 shadows_of line procs [] = []
 shadows_of line procs (word ∷ more) =
-    if is_clocked procs (writer_of line procs (place_of line word.holds)) then shadow_of word ∷ shadows_of line procs more else shadows_of line procs more
+    shadow_if (is_clocked procs (writer_of line procs (place_of line word.holds))) word ++ shadows_of line procs more
 
 -- ---- the layout: word 0, the pieces, the shadows
 

@@ -31,7 +31,8 @@ pub fn word_places(alloc: Global, layout: &Layout) -> Result<Vec<u128>, AllocErr
     let mut rest = layout.words.as_slice();
     while let [word, more @ ..] = rest {
         if word.shadow {
-            break;
+            places.push(before)?;
+            return Ok(places);
         }
         places.push(before)?;
         before += u128::from(word.len);

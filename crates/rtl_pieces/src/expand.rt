@@ -1,8 +1,9 @@
 //! Sets of bits, bit by bit.
 
-ghost use Rattle.std.specs.Prelude.{◌≡◌, ◌≤◌, ◌<◌, ◌^◌, ◌+◌, ◌||◌, ℕ, IfOk, OnOk, length};
-ghost use Rattle.rtl_pieces.specs.Line.{Placed, has, inside};
-ghost use Rattle.rtl_pieces.specs.Bits.{line_in, writes, reads, lists, Rises};
+ghost use Rattle.std.specs.Prelude.{◌≡◌, ◌≤◌, ◌<◌, ◌^◌, ◌+◌, ◌-◌, ◌++◌, ℕ, true, map, IfOk, OnOk, length};
+ghost use Rattle.std.specs.List.{list_all};
+ghost use Rattle.rtl_pieces.specs.Line.{Placed, has, is_bit, place_of};
+ghost use Rattle.rtl_pieces.specs.Bits.{line_in, writes, reads, lists, places_from, Rises};
 ghost use Rattle.rtl_pieces.specs.Ranges.{Ascending, AllBelow};
 
 use crate::bit::BitRef;
@@ -18,7 +19,9 @@ fn add_bits(line: &BitLine, range: BitRange, bits: &mut Vec<BitRef>) -> Result<(
     requires vars { line.now.vars < 2 ^ 32 }
     requires mems { length line.now.items < line.now.vars + 2 ^ 32 }
     requires within { range.to ≤ line.now.bits }
-    ensures { OnOk result ((b : ℕ) → lists line.now bits.new.items b ≡ (lists line.now bits.old.items b || inside b range)) }
+    requires there { list_all (is_bit line.now) bits.old.items ≡ true }
+    ensures places { OnOk result (map (place_of line.now) bits.new.items ≡ map (place_of line.now) bits.old.items ++ places_from range.from (range.to - range.from)) }
+    ensures there { OnOk result (list_all (is_bit line.now) bits.new.items ≡ true) }
 {
     for place in range.from..range.to {
         bits.push(line.bit(place))?;
@@ -37,8 +40,10 @@ fn bits_of(alloc: Global, line: &BitLine, ranges: &[BitRange]) -> Result<Vec<Bit
     ensures ascending { IfOk result (λ out. Rises line.now 0 out.items) }
 {
     let mut bits = Vec::new(alloc);
-    for range in ranges {
+    let mut rest = ranges;
+    while let [range, more @ ..] = rest {
         add_bits(line, *range, &mut bits)?;
+        rest = more;
     }
     Ok(bits)
 }

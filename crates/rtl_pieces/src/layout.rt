@@ -3,6 +3,7 @@
 ghost use Rattle.std.specs.Prelude.{◌≡◌, ◌≤◌, ◌<◌, ◌+◌, ◌^◌, ◌++◌, ◌∷◌, [], ℕ, map, length, drop, IfOk, IfErr, OnOk};
 ghost use Rattle.vs_base.specs.declared.limits.TheConstants.{WORDS};
 ghost use Rattle.rtl_pieces.specs.Bits.{line_in};
+ghost use Rattle.rtl_pieces.specs.Line.{place_of};
 ghost use Rattle.rtl_pieces.specs.Words as spec;
 ghost use Rattle.rtl_pieces.specs.Layouts.{ManyIf};
 
@@ -66,7 +67,8 @@ fn add_element(lowest: BitRef, pieces: &[Piece], words: &mut Vec<Word>) -> Resul
     ensures few { OnOk result (length words.new.items ≤ WORDS) }
     ensures many { IfErr result (ManyIf (WORDS < length words.old.items + length pieces.now)) }
 {
-    for piece in pieces {
+    let mut rest = pieces;
+    while let [piece, more @ ..] = rest {
         let holds = BitRef {
             bit: piece.bit,
             ..lowest
@@ -79,6 +81,7 @@ fn add_element(lowest: BitRef, pieces: &[Piece], words: &mut Vec<Word>) -> Resul
             },
             words,
         )?;
+        rest = more;
     }
     Ok(())
 }
@@ -109,7 +112,7 @@ fn add_item(
     writers: &[Option<u32>],
     words: &mut Vec<Word>,
 ) -> Result<(), CutFault>
-    requires near { item.first ≤ 2 ^ 120 }
+    requires near { item.first ≤ 2 ^ 124 }
     requires some { 1 ≤ item.width }
     requires few { length words.old.items ≤ WORDS }
     ensures words { OnOk result (words.new.items ≡ words.old.items ++ spec.item_words (spec.noted writers.now) number.mem number.item item) }
@@ -134,8 +137,12 @@ fn add_items(
     ensures few { OnOk result (length words.new.items ≤ WORDS) }
     ensures many { IfErr result (ManyIf (WORDS < length words.old.items + length (spec.words_from (spec.noted writers.now) line.now.vars 0 line.now.items))) }
 {
-    for (number, item) in line.items().iter().enumerate() {
+    let mut number: usize = 0;
+    let mut rest = line.items();
+    while let [item, more @ ..] = rest {
         add_item(alloc, line.first_bit(number), *item, writers, words)?;
+        number += 1;
+        rest = more;
     }
     Ok(())
 }
@@ -153,6 +160,31 @@ fn is_clocked(procs: &[Proc], proc: Option<u32>) -> bool
     }
 }
 
+/// Adds the shadow of a word whose writer is clocked.
+fn add_shadow(
+    procs: &[Proc],
+    line: &BitLine,
+    writers: &[Option<u32>],
+    word: Word,
+    words: &mut Vec<Word>,
+) -> Result<(), CutFault>
+    requires few { length words.old.items ≤ WORDS }
+    ensures words { OnOk result (words.new.items ≡ words.old.items ++ spec.shadow_if (spec.is_clocked procs.now (spec.noted writers.now (place_of line.now word.holds))) word) }
+    ensures few { OnOk result (length words.new.items ≤ WORDS) }
+    ensures many { IfErr result (ManyIf (WORDS < length words.old.items + length (spec.shadow_if (spec.is_clocked procs.now (spec.noted writers.now (place_of line.now word.holds))) word))) }
+{
+    if !is_clocked(procs, writer_at(writers, line.place(word.holds))) {
+        return Ok(());
+    }
+    add_word(
+        Word {
+            shadow: true,
+            ..word
+        },
+        words,
+    )
+}
+
 /// Adds a shadow for each of the first words whose writer is clocked.
 fn add_shadows(
     procs: &[Proc],
@@ -167,16 +199,7 @@ fn add_shadows(
     ensures many { IfErr result (ManyIf (WORDS < length words.old.items + length (spec.shadows_of line.now procs.now (drop 1 words.old.items)))) }
 {
     for number in 1..words.len() {
-        let word = words[number];
-        if is_clocked(procs, writer_at(writers, line.place(word.holds))) {
-            add_word(
-                Word {
-                    shadow: true,
-                    ..word
-                },
-                words,
-            )?;
-        }
+        add_shadow(procs, line, writers, words[number], words)?;
     }
     Ok(())
 }

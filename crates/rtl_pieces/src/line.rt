@@ -1,6 +1,6 @@
 //! The bits of a design side by side.
 
-ghost use Rattle.std.specs.Prelude.{◌≡◌, ◌≤◌, ◌^◌, ◌*◌, ◌+◌, ◌<◌, ◌++◌, IfOk, OnOk, length, true};
+ghost use Rattle.std.specs.Prelude.{◌≡◌, ◌≤◌, ◌^◌, ◌*◌, ◌+◌, ◌<◌, ◌++◌, ◌∷◌, [], IfOk, OnOk, length, true};
 ghost use Rattle.std.specs.List.{list_all};
 ghost use Rattle.rtl_pieces.specs.Near.{is_near};
 ghost use Rattle.rtl_pieces.specs.Line as spec;
@@ -39,7 +39,8 @@ impl Model for BitLine {
 impl BitLine {
     /// The line of the bits of a design.
     pub fn new(alloc: Global, design: &Design) -> Result<BitLine, AllocError>
-        ensures { IfOk result (λ line. line ≡ spec.line_of design.now.vars design.now.mems) }
+        ensures value { IfOk result (λ line. line ≡ spec.line_of design.now.vars design.now.mems) }
+        ensures near { IfOk result (λ line. list_all is_near line.items ≡ true) }
     {
         let mut items = Items::new(alloc);
         let first = add_vars(design.vars.as_slice(), &mut items)?;
@@ -53,7 +54,8 @@ impl BitLine {
 
     /// The variables, and then the memories.
     pub fn items(&self) -> &[Item]
-        ensures { result.now ≡ self.now.items }
+        ensures value { result.now ≡ self.now.items }
+        ensures near { list_all is_near result.now ≡ true }
     {
         self.items.as_slice()
     }
@@ -68,7 +70,7 @@ impl BitLine {
     /// The variable or the memory of a number; one without bits where there is none.
     pub fn item(&self, mem: bool, number: u32) -> Item
         ensures value { result ≡ spec.items_in self.now mem number }
-        ensures near { result.first ≤ 2 ^ 120 }
+        ensures near { result.first ≤ 2 ^ 124 }
     {
         let number = number as usize;
         if mem {
@@ -145,7 +147,7 @@ fn bit_in(item: Item, lowest: BitRef, place: u128) -> BitRef
 
 /// The place of a bit of a variable or a memory.
 pub fn place_in(item: Item, element: u32, bit: u32) -> u128
-    requires near { item.first ≤ 2 ^ 120 }
+    requires near { item.first ≤ 2 ^ 124 }
     ensures { result ≡ spec.place_in item element bit }
 {
     item.first + product(element, item.width) + u128::from(bit)
@@ -164,7 +166,7 @@ const NO_ITEM: Item = Item {
 fn item_or_none(items: &[Item], number: Option<usize>) -> Item
     requires near { list_all is_near items.now ≡ true }
     ensures value { result ≡ spec.item_or_none (spec.got items.now number) }
-    ensures near { result.first ≤ 2 ^ 120 }
+    ensures near { result.first ≤ 2 ^ 124 }
 {
     let Some(number) = number else {
         return NO_ITEM;
@@ -194,11 +196,24 @@ fn add_vars(vars: &[Var], items: &mut Items<Item>) -> Result<u128, AllocError>
     Ok(first)
 }
 
+/// Adds a memory at a place; the place after its last bit.
+fn add_mem(mem: &Mem, first: u128, items: &mut Items<Item>) -> Result<u128, AllocError>
+    requires near { list_all is_near items.old ≡ true }
+    requires far { first ≤ 2 ^ 124 }
+    ensures items { OnOk result (items.new ≡ items.old ++ spec.mem_item first mem.now ∷ []) }
+    ensures end { IfOk result (λ next. next ≡ first + mem.now.count * mem.now.width) }
+    ensures near { OnOk result (list_all is_near items.new ≡ true) }
+    ensures most { IfOk result (λ next. next ≤ first + 2 ^ 64) }
+{
+    items.push(mem_item(first, mem))?;
+    Ok(first + product(mem.count, mem.width))
+}
+
 /// Adds the memories, from a place on; the place after the last.
 fn add_mems(mems: &[Mem], start: u128, items: &mut Items<Item>) -> Result<u128, AllocError>
     requires near { list_all is_near items.old ≡ true }
     requires far { start ≤ 2 ^ 32 * 2 ^ 64 }
-    requires few { length mems.now ≤ 2 ^ 64 }
+    requires few { length mems.now ≤ 2 ^ 58 }
     ensures items { OnOk result (items.new ≡ items.old ++ spec.mem_items start mems.now) }
     ensures end { IfOk result (λ first. first ≡ spec.end_of start (spec.mem_items start mems.now)) }
     ensures near { OnOk result (list_all is_near items.new ≡ true) }
@@ -206,8 +221,7 @@ fn add_mems(mems: &[Mem], start: u128, items: &mut Items<Item>) -> Result<u128, 
     let mut first = start;
     let mut rest = mems;
     while let [mem, more @ ..] = rest {
-        items.push(mem_item(first, mem))?;
-        first += product(mem.count, mem.width);
+        first = add_mem(mem, first, items)?;
         rest = more;
     }
     Ok(first)

@@ -1,7 +1,8 @@
 //! What expressions read.
 #![tactic(auto, using(crate::specs::ReadsLaws::laws))]
 
-ghost use Rattle.std.specs.Prelude.{◌≡◌, ◌++◌, ◌∷◌, [], map, OnOk, IfSome, ◌≤ℤ◌, ◌^◌, pos, negsuc};
+ghost use Rattle.std.specs.Prelude.{◌≡◌, ◌≤◌, ◌++◌, ◌∷◌, [], map, OnOk, IfSome, ◌≤ℤ◌, ◌^◌, pos, negsuc};
+ghost use Rattle.std.specs.Option.{option_map};
 ghost use Rattle.rtl_ir.specs.declared.expr.Target.{out-Target};
 ghost use Rattle.rtl_pieces.specs.Line.{items_in};
 ghost use Rattle.rtl_pieces.specs.Reads as spec;
@@ -37,8 +38,22 @@ fn constant(expr: &Expr, line: &BitLine) -> Option<i128>
 {
     match &expr.node {
         ExprNode::Const(value) => constant_of(expr.signed, *value),
-        _ => None,
+        ExprNode::Read(_)
+        | ExprNode::Prefix(_, _)
+        | ExprNode::Level(_, _)
+        | ExprNode::Choose(_, _)
+        | ExprNode::Concat(_)
+        | ExprNode::Repeat(_, _)
+        | ExprNode::Call(_)
+        | ExprNode::Sign(_) => None,
     }
+}
+
+/// A select with a constant index.
+fn part(at: i128, width: u32, down: bool) -> Part
+    ensures { result ≡ spec.part at width down }
+{
+    Part { at, width, down }
 }
 
 /// What a select takes where its index is a constant.
@@ -48,17 +63,18 @@ fn part_taken(select: &Select, line: &BitLine) -> Option<Part>
     ensures least { IfSome result (λ p. negsuc (2 ^ 64) ≤ℤ p.at) }
 {
     match constant(select.at.get(), line) {
-        Some(at) => Some(Part {
-            at,
-            width: select.width.bits(),
-            down: select.down,
-        }),
+        Some(at) => Some(part(at, select.width.bits(), select.down)),
         None => None,
     }
 }
 
 /// The bits of a name at a constant address.
-fn bits_at(item: Item, address: i128, select: &Option<Select>, line: &BitLine) -> BitRange {
+fn bits_at(item: Item, address: i128, select: &Option<Select>, line: &BitLine) -> BitRange
+    requires near { item.first ≤ 2 ^ 124 }
+    requires high { address ≤ℤ pos (2 ^ 64) }
+    requires low { negsuc (2 ^ 64) ≤ℤ address }
+    ensures { result ≡ spec.by_select item address (option_map (spec.select_part (items_in line.now)) select.now) }
+{
     let Some(select) = select else {
         return named_bits(item, address, None);
     };
@@ -69,7 +85,11 @@ fn bits_at(item: Item, address: i128, select: &Option<Select>, line: &BitLine) -
 }
 
 /// The address of a name's element where it is a constant.
-fn address_of(item: Item, target: &Target, line: &BitLine) -> Option<i128> {
+fn address_of(item: Item, target: &Target, line: &BitLine) -> Option<i128>
+    ensures value { result ≡ spec.address_in item (option_map (spec.expr_constant (items_in line.now)) (out-Target target.now).element) }
+    ensures high { IfSome result (λ at. at ≤ℤ pos (2 ^ 64)) }
+    ensures low { IfSome result (λ at. negsuc (2 ^ 64) ≤ℤ at) }
+{
     match &target.element {
         Some(element) => constant(element.get(), line),
         None => Some(i128::from(item.low)),

@@ -1,6 +1,6 @@
 //! Bits with two writers.
 
-ghost use Rattle.std.specs.Prelude.{◌≡◌, ◌<◌, ◌≤◌, ◌+◌, ◌^◌, ℕ, false, true, length, IfSome, IfNone, IfErr, OnOk};
+ghost use Rattle.std.specs.Prelude.{◌≡◌, ◌<◌, ◌+◌, ◌^◌, ℕ, true, length, IfErr, OnOk};
 ghost use Rattle.rtl_pieces.specs.Line.{Placed};
 ghost use Rattle.rtl_pieces.specs.Bits.{line_in, writes};
 ghost use Rattle.rtl_pieces.specs.Owned as spec;
@@ -51,17 +51,26 @@ fn has_place(owned: OwnedRange, place: u128) -> bool
     owned.range.from <= place && place < owned.range.to
 }
 
+/// The lesser of a process found before and that of a range, where the range has a place and its process is no lower than
+/// a number.
+fn with_owned(found: Option<u32>, owned: OwnedRange, place: u128, least: u64) -> Option<u32>
+    ensures { result ≡ spec.with_owned least place found owned }
+{
+    if least <= u64::from(owned.proc) && has_place(owned, place) {
+        return Some(lesser(found, owned.proc));
+    }
+    found
+}
+
 /// The first process from a number on with a range that has a place.
-fn writer_from(all: &[OwnedRange], place: u128, least: u32) -> Option<u32>
-    ensures none { IfNone result ((p : ℕ) → least ≤ p → spec.owned_by p place all.now ≡ false) }
-    ensures is_writer { IfSome result (λ p. (least ≤ p) × (spec.owned_by p place all.now ≡ true)) }
-    ensures first { IfSome result (λ p. (q : ℕ) → least ≤ q → q < p → spec.owned_by q place all.now ≡ false) }
+fn writer_from(all: &[OwnedRange], place: u128, least: u64) -> Option<u32>
+    ensures { spec.IsLeast (λ p. spec.owned_by p place all.now) least result }
 {
     let mut found = None;
-    for owned in all {
-        if least <= owned.proc && has_place(*owned, place) {
-            found = Some(lesser(found, owned.proc));
-        }
+    let mut rest = all;
+    while let [owned, more @ ..] = rest {
+        found = with_owned(found, *owned, place, least);
+        rest = more;
     }
     found
 }
@@ -76,7 +85,7 @@ fn shared_at(line: &BitLine, all: &[OwnedRange], place: u128) -> DriverFault
     ensures { IsFault line.now (λ p b. spec.owned_by p b all.now) result }
 {
     let first = writer_from(all, place, 0).unwrap_or(0);
-    let second = writer_from(all, place, first.saturating_add(1)).unwrap_or(0);
+    let second = writer_from(all, place, u64::from(first) + 1).unwrap_or(0);
     DriverFault::MultipleDrivers(line.bit(place), first, second)
 }
 

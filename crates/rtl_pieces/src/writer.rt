@@ -1,6 +1,6 @@
 //! The writing process of each bit.
 
-ghost use Rattle.std.specs.Prelude.{◌≡◌, ◌&&◌, ◌<◌, ◌^◌, ℕ, IfOk, OnOk, length};
+ghost use Rattle.std.specs.Prelude.{◌≡◌, ◌==◌, ◌&&◌, ◌<◌, ◌^◌, ℕ, None, IfOk, OnOk, length};
 ghost use Rattle.rtl_pieces.specs.Line.{inside, has};
 ghost use Rattle.rtl_pieces.specs.Bits.{writes};
 ghost use Rattle.rtl_pieces.specs.Words as spec;
@@ -11,6 +11,16 @@ use crate::sets::ranges_written;
 use rtl_ir::Design;
 use std::alloc::{AllocError, Global};
 
+/// Notes a process at a place that has none.
+fn mark(at: usize, proc: u32, writers: &mut [Option<u32>])
+    requires within { at < length writers.old }
+    ensures { (b : ℕ) → spec.noted writers.new b ≡ spec.noted_also (spec.noted writers.old b) (b == at) proc }
+{
+    if writers[at].is_none() {
+        writers[at] = Some(proc);
+    }
+}
+
 /// Notes a process at the places of a range that have none.
 fn mark_range(range: BitRange, proc: u32, writers: &mut [Option<u32>])
     ensures { (b : ℕ) → spec.noted writers.new b ≡ spec.noted_also (spec.noted writers.old b) (spec.in_list writers.old b && inside b range) proc }
@@ -18,10 +28,7 @@ fn mark_range(range: BitRange, proc: u32, writers: &mut [Option<u32>])
     let end = writers.len() as u128;
     let mut place = range.from;
     while place < range.to && place < end {
-        let at = place as usize;
-        if writers[at].is_none() {
-            writers[at] = Some(proc);
-        }
+        mark(place as usize, proc, writers);
         place += 1;
     }
 }
@@ -30,8 +37,10 @@ fn mark_range(range: BitRange, proc: u32, writers: &mut [Option<u32>])
 fn mark_ranges(ranges: &[BitRange], proc: u32, writers: &mut [Option<u32>])
     ensures { (b : ℕ) → spec.noted writers.new b ≡ spec.noted_also (spec.noted writers.old b) (spec.in_list writers.old b && has b ranges.now) proc }
 {
-    for range in ranges {
+    let mut rest = ranges;
+    while let [range, more @ ..] = rest {
         mark_range(*range, proc, writers);
+        rest = more;
     }
 }
 
@@ -51,6 +60,24 @@ fn mark_process(
     Ok(())
 }
 
+/// Notes all processes, the first one first.
+fn mark_processes(
+    alloc: Global,
+    design: &Design,
+    line: &BitLine,
+    writers: &mut [Option<u32>],
+) -> Result<(), AllocError>
+    requires whole { length writers.old ≡ line.now.bits }
+    requires few { length design.now.procs < 2 ^ 32 }
+    requires none { (b : ℕ) → spec.noted writers.old b ≡ None }
+    ensures { OnOk result ((b : ℕ) → spec.noted writers.new b ≡ spec.writer_of line.now design.now.procs b) }
+{
+    for proc in 0..design.procs.len() {
+        mark_process(alloc, design, line, proc as u32, writers)?;
+    }
+    Ok(())
+}
+
 /// The first process that writes each of all bits, of which there are so many.
 pub fn writers(
     alloc: Global,
@@ -63,9 +90,7 @@ pub fn writers(
     ensures { IfOk result (λ out. (b : ℕ) → spec.noted out.items b ≡ spec.writer_of line.now design.now.procs b) }
 {
     let mut writers = vec![in alloc; None; bits]?;
-    for proc in 0..design.procs.len() {
-        mark_process(alloc, design, line, proc as u32, writers.as_mut_slice())?;
-    }
+    mark_processes(alloc, design, line, writers.as_mut_slice())?;
     Ok(writers)
 }
 
