@@ -50,22 +50,22 @@ begins : (ns : List ℕ) (begun from w : ℕ) → IsPartitionPoint (λ n. leb n 
     → leb (begun - 1) w ≡ ltb from (get_or ns (suc w) 0)
 begins ns begun from w p k = elim (cases_lt (suc w) begun) [
   | inl before ↦
-    (let h : get_or ns (suc w) 0 ≤ from = leb-true (get_or ns (suc w) 0) from (p.0 (suc w) 0 (omega arith) before) in
-    lt-leb (begun - 1) w (omega arith) ∙ sym (le-ltb from (get_or ns (suc w) 0) h))
+      (let h : get_or ns (suc w) 0 ≤ from = leb-true (get_or ns (suc w) 0) from (p.0 (suc w) 0 (omega arith) before) in
+      lt-leb (begun - 1) w (omega arith) ∙ sym (le-ltb from (get_or ns (suc w) 0) h))
   | inr after ↦
-    (let h : from < get_or ns (suc w) 0 = leb-false (get_or ns (suc w) 0) from (p.1 (suc w) 0 after k) in
-    le-leb (begun - 1) w (omega arith) ∙ sym (lt-ltb from (get_or ns (suc w) 0) h))
+      (let h : from < get_or ns (suc w) 0 = leb-false (get_or ns (suc w) 0) from (p.1 (suc w) 0 after k) in
+      le-leb (begun - 1) w (omega arith) ∙ sym (lt-ltb from (get_or ns (suc w) 0) h))
 ]
 
 ends : (ns : List ℕ) (end to w : ℕ) → IsPartitionPoint (λ n. ltb n to ≡ true) (λ n. ltb n to ≡ false) ns end → suc w < length ns
     → ltb w end ≡ ltb (get_or ns w 0) to
 ends ns end to w p k = elim (cases_lt w end) [
   | inl before ↦
-    (let h : get_or ns w 0 < to = ltb-true (get_or ns w 0) to (p.0 w 0 (omega arith) before) in
-    lt-ltb w end before ∙ sym (lt-ltb (get_or ns w 0) to h))
+      (let h : get_or ns w 0 < to = ltb-true (get_or ns w 0) to (p.0 w 0 (omega arith) before) in
+      lt-ltb w end before ∙ sym (lt-ltb (get_or ns w 0) to h))
   | inr after ↦
-    (let h : to ≤ get_or ns w 0 = ltb-false (get_or ns w 0) to (p.1 w 0 after (omega arith)) in
-    le-ltb w end after ∙ sym (le-ltb (get_or ns w 0) to h))
+      (let h : to ≤ get_or ns w 0 = ltb-false (get_or ns w 0) to (p.1 w 0 after (omega arith)) in
+      le-ltb w end after ∙ sym (le-ltb (get_or ns w 0) to h))
 ]
 
 swap : (x y z : Bool) → z ≡ true → (x && y) ≡ (z && (y && x))

@@ -58,8 +58,9 @@ pub piece_more : (cut : ℕ → Bool) (from bit width next : ℕ) (t : Bool) (mi
     → (new ++ pieces_from cut next (bit + 1 - next) (width - (bit + 1)) ≡ all) × (next < bit + 1)
 piece_more cut from bit width next t mid new all h k e is f g =
     let there = if t then bit else from in
-    let left = pieces_from cut there (bit + 1 - there) (width - (bit + 1)) in
-    (ap (λ (n : ℕ). new ++ pieces_from cut n (bit + 1 - n) (width - (bit + 1))) is
-    ∙ ap (λ (ps : List Piece). ps ++ left) f ∙ append_assoc mid (piece_if t from bit) left
-    ∙ sym (ap (λ (ps : List Piece). mid ++ ps) (piece_next cut from bit width t h k e)) ∙ g,
-    subst (λ (n : ℕ). n < bit + 1) (sym is) (below from bit t h))
+    let left = pieces_from cut there (bit + 1 - there) (width - (bit + 1)) in (
+      ap (λ (n : ℕ). new ++ pieces_from cut n (bit + 1 - n) (width - (bit + 1))) is
+          ∙ ap (λ (ps : List Piece). ps ++ left) f ∙ append_assoc mid (piece_if t from bit) left
+          ∙ sym (ap (λ (ps : List Piece). mid ++ ps) (piece_next cut from bit width t h k e)) ∙ g,
+      subst (λ (n : ℕ). n < bit + 1) (sym is) (below from bit t h),
+    )

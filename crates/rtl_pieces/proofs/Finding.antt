@@ -96,8 +96,8 @@ found line items point place it same placed inside bound p number e is =
       from = subst (λ (i : Item). i.first ≤ place) (sym is) (leb-true (get_or items number it).first place (p.0 number it (omega arith) here));
       to = subst (λ (i : Item). place < i.first + size_of i) (sym is) (elim (cases_lt (suc number) (length items)) [
         | inl more ↦
-          (let next : place < (get_or items (suc number) it).first = leb-false (get_or items (suc number) it).first place (p.1 (suc number) it (omega arith) more) in
-          subst (λ (n : ℕ). place < n) (next_of 0 items number it behind more) next)
+            (let next : place < (get_or items (suc number) it).first = leb-false (get_or items (suc number) it).first place (p.1 (suc number) it (omega arith) more) in
+            subst (λ (n : ℕ). place < n) (next_of 0 items number it behind more) next)
         | inr last ↦ subst (λ (n : ℕ). place < n) (last_of 0 items number it behind (omega arith)) there
       ]);
     }

@@ -34,13 +34,13 @@ step_lesser done least b o None h k w =
     (k, or_right (done o.proc) (owns o.proc b o) w, λ q l m. or_from (done q) (owns q b o) (h q l) (other q b o (λ e. omega arith)))
 step_lesser done least b o (Some n) h k w = elim (cases_lt n o.proc) [
   | inl below ↦
-    (let e : min n o.proc ≡ n = omega arith in
-    subst (λ (m : ℕ). IsLeast (λ p. done p || owns p b o) least (Some m)) (sym e)
-    (h.0, or_left (done n) (owns n b o) h.1, λ q l m. or_from (done q) (owns q b o) (h.2 q l m) (other q b o (λ same. omega arith))))
+      (let e : min n o.proc ≡ n = omega arith in
+      subst (λ (m : ℕ). IsLeast (λ p. done p || owns p b o) least (Some m)) (sym e)
+      (h.0, or_left (done n) (owns n b o) h.1, λ q l m. or_from (done q) (owns q b o) (h.2 q l m) (other q b o (λ same. omega arith))))
   | inr above ↦
-    (let e : min n o.proc ≡ o.proc = omega arith in
-    subst (λ (m : ℕ). IsLeast (λ p. done p || owns p b o) least (Some m)) (sym e)
-    (k, or_right (done o.proc) (owns o.proc b o) w, λ q l m. or_from (done q) (owns q b o) (h.2 q l (omega arith)) (other q b o (λ same. omega arith))))
+      (let e : min n o.proc ≡ o.proc = omega arith in
+      subst (λ (m : ℕ). IsLeast (λ p. done p || owns p b o) least (Some m)) (sym e)
+      (k, or_right (done o.proc) (owns o.proc b o) w, λ q l m. or_from (done q) (owns q b o) (h.2 q l (omega arith)) (other q b o (λ same. omega arith))))
 ]
 
 step_kept : (done : ℕ → Bool) (least b : ℕ) (o : OwnedRange) (found : Option ℕ) → IsLeast done least found → (leb least o.proc && owns o.proc b o) ≡ false

@@ -12,6 +12,7 @@ pub mod Finding
 pub mod Covering
 pub mod Counting
 pub mod Cutting
+pub mod Uncut
 pub mod Whole
 pub mod Driving
 mod Examples

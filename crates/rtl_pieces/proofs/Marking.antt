@@ -35,17 +35,17 @@ set_other (w ∷ more) (suc at) p (suc b) h = set_other more at p b (λ e. h (ap
 pub mark_one : (writers : List (Option ℕ)) (at p : ℕ) → at < length writers → noted writers at ≡ None → (b : ℕ) → noted (set writers at (Some p)) b ≡ noted_also (noted writers b) (eqb b at) p
 mark_one writers at p h none b = elim (cases_eq b at) [
   | inl e ↦
-    (let n : noted writers b ≡ None = ap (noted writers) e ∙ none in
-    ap (noted (set writers at (Some p))) e ∙ set_here writers at p h
-    ∙ sym (ap (λ (t : Bool). noted_also (noted writers b) t p) (eq-eqb b at e) ∙ ap (λ (o : Option ℕ). noted_also o true p) n))
+      (let n : noted writers b ≡ None = ap (noted writers) e ∙ none in
+      ap (noted (set writers at (Some p))) e ∙ set_here writers at p h
+      ∙ sym (ap (λ (t : Bool). noted_also (noted writers b) t p) (eq-eqb b at e) ∙ ap (λ (o : Option ℕ). noted_also o true p) n))
   | inr ne ↦ set_other writers at p b ne ∙ also_none (noted writers b) p ∙ sym (ap (λ (t : Bool). noted_also (noted writers b) t p) (ne_eqb b at ne))
 ]
 
 pub mark_kept : (writers : List (Option ℕ)) (at p q : ℕ) → noted writers at ≡ Some q → (b : ℕ) → noted writers b ≡ noted_also (noted writers b) (eqb b at) p
 mark_kept writers at p q some b = elim (cases_eq b at) [
   | inl e ↦
-    (let n : noted writers b ≡ Some q = ap (noted writers) e ∙ some in
-    n ∙ sym (ap (λ (o : Option ℕ). noted_also o (eqb b at) p) n))
+      (let n : noted writers b ≡ Some q = ap (noted writers) e ∙ some in
+      n ∙ sym (ap (λ (o : Option ℕ). noted_also o (eqb b at) p) n))
   | inr ne ↦ also_none (noted writers b) p ∙ sym (ap (λ (t : Bool). noted_also (noted writers b) t p) (ne_eqb b at ne))
 ]
 

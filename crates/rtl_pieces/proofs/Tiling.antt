@@ -93,7 +93,7 @@ module _ (line : Line) (mem : Bool) (k : ℕ) (item : Item) (here : items_in lin
 
 -- ---- all of them
 
-near_width : (item : Item) → is_near item ≡ true → 1 ≤ item.width
+pub near_width : (item : Item) → is_near item ≡ true → 1 ≤ item.width
 near_width item h = leb-true 1 item.width (and_parts (leb 1 item.width) (leb item.width WIDTH) (and_parts (leb item.first (2 ^ 124)) (leb 1 item.width && leb item.width WIDTH) h).1).0
 
 -- the item of a number, by the list that it stands in

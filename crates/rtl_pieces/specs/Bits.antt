@@ -25,7 +25,7 @@ writes line procs p b = nat_lt b line.bits && has b (named_left line (slice_get 
 abbrev pub names : Line → List Proc → ℕ → ℕ → Bool
 names line procs p b = nat_lt b line.bits && has b (named_right line (slice_get procs p))
 
--- it reads those that it names and does not write
+-- it reads those that it names and does not write (IEEE 1800-2017 9.2.2.2.1)
 abbrev pub reads : Line → List Proc → ℕ → ℕ → Bool
 reads line procs p b = names line procs p b && not (writes line procs p b)
 

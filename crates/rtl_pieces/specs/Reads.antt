@@ -1,4 +1,5 @@
--- What an expression reads: the bits of each name in it, and what the indices of its selects read (an index of a constant reads nothing).
+-- What an expression reads: the bits of each name in it, and what the indices of its selects read, where a constant reads nothing
+-- (IEEE 1800-2017 9.2.2.2.1).
 use Rattle.std.specs.Prelude.{ℕ, Bool, true, false, if◌then◌else◌, nat_le, List, [], ◌∷◌, ◌++◌, map, Option, Some, None, ℤ}
 use Rattle.std.specs.Option.{option_map}
 use Rattle.vs_base.specs.Number.{Number, reading}

@@ -7,7 +7,7 @@ use Rattle.rtl_pieces.specs.declared.bit.BitRef.{BitRef}
 use Rattle.rtl_pieces.specs.declared.item.Item.{Item}
 use Rattle.rtl_pieces.specs.declared.pieces.Piece.{Piece}
 use Rattle.rtl_pieces.specs.declared.layout.Word.{Word}
-use Rattle.rtl_pieces.specs.Line.{Line, place_in, place_of}
+use Rattle.rtl_pieces.specs.Line.{Line, items_in, is_bit, place_in, place_of}
 use Rattle.rtl_pieces.specs.Bits.{writes}
 
 -- ---- the writer of a bit: the first process that writes it, of so many from a number on
@@ -124,3 +124,9 @@ words_in line procs = table_word ∷ (pieces_in line procs ++ shadows_of line pr
 abbrev pub Tiles : Line → ℕ → ℕ → List Word → Type 0
 Tiles line from to [] = from ≡ to
 Tiles line from to (word ∷ more) = (place_of line word.holds ≡ from) × (1 ≤ word.len) × Tiles line (from + word.len) to more
+
+-- a piece lies in one element, and its bits have one writer, or none
+pub record IsPiece (line : Line) (procs : List Proc) (word : Word) : Type 0 where
+  pub there : is_bit line word.holds ≡ true
+  pub within : word.holds.bit + word.len ≤ (items_in line word.holds.mem word.holds.item).width
+  pub one_writer : (b : ℕ) → b < word.len → writer_of line procs (place_of line word.holds + b) ≡ writer_of line procs (place_of line word.holds)

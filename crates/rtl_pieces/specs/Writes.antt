@@ -1,5 +1,5 @@
 -- What statements write and read. They write the bits of the left sides of their assignments, and they read what stands in their
--- expressions and in the indices of their left sides.
+-- expressions and in the indices of their left sides (IEEE 1800-2017 10.3, 10.4).
 use Rattle.std.specs.Prelude.{ℕ, Bool, List, [], ◌∷◌, ◌++◌, map}
 use Rattle.rtl_ir.specs.declared.expr.Target.{Target}
 use Rattle.rtl_ir.specs.declared.expr.Expr.{Expr}

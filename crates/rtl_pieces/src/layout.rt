@@ -1,6 +1,7 @@
 //! The words of a design.
 
 ghost use Rattle.std.specs.Prelude.{◌≡◌, ◌≤◌, ◌<◌, ◌+◌, ◌^◌, ◌++◌, ◌∷◌, [], ℕ, map, length, drop, IfOk, IfErr, OnOk};
+ghost use Rattle.std.specs.List.{All};
 ghost use Rattle.vs_base.specs.declared.limits.TheConstants.{WORDS};
 ghost use Rattle.rtl_pieces.specs.Bits.{line_in};
 ghost use Rattle.rtl_pieces.specs.Line.{place_of};
@@ -215,6 +216,7 @@ pub fn cut(alloc: Global, design: &Design) -> Result<Layout, CutFault>
     ensures words { IfOk result (λ layout. layout.words.items ≡ spec.words_in (line_in design.now) design.now.procs) }
     ensures few { IfOk result (λ layout. length layout.words.items ≤ WORDS) }
     ensures many { IfErr result (ManyIf (WORDS < length (spec.words_in (line_in design.now) design.now.procs))) }
+    ensures pieces { IfOk result (λ layout. All (spec.IsPiece (line_in design.now) design.now.procs) (spec.pieces_in (line_in design.now) design.now.procs)) }
     ensures tiles { IfOk result (λ layout. spec.Tiles (line_in design.now) 0 (line_in design.now).bits (spec.pieces_in (line_in design.now) design.now.procs)) }
 {
     let line = BitLine::new(alloc, design)?;

@@ -29,6 +29,21 @@
 //!   compares neighbours.
 //! - [`words_of`] finds the words that have bits of a range: they stand side by side, since words are in the order of bits.
 //!
+//! # What is proved
+//!
+//! `specs/` says what a bit's place is (`Line`), which bits a name with its selects stands for (`Named`), and what expressions,
+//! statements and processes read and write (`Reads`, `Writes`, `Bits`), after IEEE 1800-2017 9.2.2.2.1 and 11.5.
+//!
+//! - [`ranges_read`], [`ranges_written`], [`bits_read`] and [`bits_written`] give just those bits, ascending.
+//! - [`drivers`] answers `Ok` only where no two processes write a bit, and its fault names the least bit that two write, and
+//!   the first two of them.
+//! - [`cut`] gives just the words that `Words` defines. Their pieces stand one behind the other and cover the line, so each bit
+//!   of each variable and element is in just one of them; a piece lies in one element, and its bits have one writer or
+//!   none. `TooMany` comes only where there are too many.
+//! - [`words_of`] gives just the words that have a bit of a range.
+//!
+//! Only want of memory may come at any time.
+//!
 //! # Cost
 //!
 //! What a process names costs its statements and expressions, and n log n for n ranges. [`drivers`] takes n log n for all

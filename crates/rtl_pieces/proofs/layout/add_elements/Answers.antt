@@ -23,7 +23,8 @@ loop-element-preserved c =
     let item = c.args.lowest.item in
     let pieces = c.args.pieces.now in
     let e = c.loop-element.element in
-    let n = c.args.elements in
-    (step c.loop-element.words.items c.add_element.new.words.items (map (word_of mem item e) pieces) (element_words mem item pieces (e + 1) (n - (e + 1))) (element_words mem item pieces e (n - e)) _
-    c.in_ok-add_element.ensures.words (element_next mem item pieces e n c.loop-element-test.true) c.loop-element.invariant.0,
-    c.in_ok-add_element.ensures.few)
+    let n = c.args.elements in (
+      step c.loop-element.words.items c.add_element.new.words.items (map (word_of mem item e) pieces) (element_words mem item pieces (e + 1) (n - (e + 1))) (element_words mem item pieces e (n - e)) _
+          c.in_ok-add_element.ensures.words (element_next mem item pieces e n c.loop-element-test.true) c.loop-element.invariant.0,
+      c.in_ok-add_element.ensures.few,
+    )

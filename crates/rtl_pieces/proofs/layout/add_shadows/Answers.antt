@@ -18,7 +18,8 @@ loop-number-preserved c =
     let this = shadow_if (is_clocked procs writer) word in
     let new = c.add_shadow.new.words.items in
     let k = c.in_ok-add_shadow.ensures.words in
-    let more : length start ≤ length new = omega (arith, ap length k, length-append mid this, c.loop-number.invariant.2) in
-    (step mid new this (shadows_of line procs (drop (n + 1) start)) (shadows_of line procs (drop n start)) _ k (shadow_next line procs start n word writer within is (c.requires.writers (place_of line word.holds))) c.loop-number.invariant.0,
-    c.in_ok-add_shadow.ensures.few,
-    more)
+    let more : length start ≤ length new = omega (arith, ap length k, length-append mid this, c.loop-number.invariant.2) in (
+      step mid new this (shadows_of line procs (drop (n + 1) start)) (shadows_of line procs (drop n start)) _ k (shadow_next line procs start n word writer within is (c.requires.writers (place_of line word.holds))) c.loop-number.invariant.0,
+      c.in_ok-add_shadow.ensures.few,
+      more,
+    )

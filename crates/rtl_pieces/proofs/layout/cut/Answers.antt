@@ -1,13 +1,15 @@
 use Rattle.std.proofs.Common.{◌≡◌, ◌<◌, ◌+◌, ◌*◌, ◌++◌, ◌∷◌, [], ◌∙◌, ℕ, List, Option, length, drop, ap, subst, arith}
 use Rattle.std.proofs.lemmas.Result.{err_from_is_err_and}
+use Rattle.std.specs.List.{All}
 use Rattle.vs_base.specs.declared.limits.TheConstants.{WORDS}
 use Rattle.rtl_ir.specs.declared.design.Proc.{Proc}
 use Rattle.rtl_pieces.specs.declared.layout.Word.{Word}
 use Rattle.rtl_pieces.specs.Line.{Line}
-use Rattle.rtl_pieces.specs.Words.{noted, table_word, words_in, pieces_in, shadows_of, writer_of, Tiles}
+use Rattle.rtl_pieces.specs.Words.{noted, table_word, words_in, pieces_in, shadows_of, writer_of, Tiles, IsPiece}
 use Rattle.rtl_pieces.proofs.Counting.{many_weaker}
 use Rattle.rtl_pieces.proofs.Finding.{few_items, placed_line}
 use Rattle.rtl_pieces.proofs.Tiling.{pieces_tile}
+use Rattle.rtl_pieces.proofs.Uncut.{all_pieces}
 use Rattle.rtl_pieces.proofs.Whole.{bits_many, whole, many_pieces, many_shadows}
 use Rattle.rtl_pieces.proofs.layout.cut.Goals as goal
 
@@ -62,6 +64,11 @@ returns-clause-words c =
     let g : third ≡ second ++ shadows_of line procs (drop 1 second) = c.in_ok-add_shadows.ensures.words ∙ ap (λ (ps : List Proc). second ++ shadows_of line ps (drop 1 second)) c.as_slice-2.ensures in
     whole line procs writers (λ b. ap (λ (ws : List (Option ℕ)). noted ws b) c.as_slice.ensures.value ∙ c.in_ok-writers.ensures b) first second third e c.in_ok-add_items.ensures.words g
     ∙ ap (λ (l : Line). words_in l procs) c.in_ok-line.ensures.value
+
+pub returns-clause-pieces : goal.returns-clause-pieces
+returns-clause-pieces c =
+    let procs = c.args.design.now.procs in
+    subst (λ (l : Line). All (IsPiece l procs) (pieces_in l procs)) c.in_ok-line.ensures.value (all_pieces c.in_ok-line.line procs c.in_ok-line.ensures.near)
 
 pub returns-clause-tiles : goal.returns-clause-tiles
 returns-clause-tiles c =
