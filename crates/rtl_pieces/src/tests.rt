@@ -1,6 +1,6 @@
 //! Two designs: two variables that three processes write in parts, and a memory whose elements are written in halves.
 
-ghost use Rattle.std.specs.Prelude.{◌≤◌};
+ghost use Rattle.std.specs.Prelude.{◌≤◌, ◌<◌, ◌^◌, length, IfOk};
 
 use crate::{
     BitLine, BitRef, DriverFault, Layout, bits_read, bits_written, cut, drivers, ranges_read,
@@ -122,7 +122,14 @@ fn design(
     vars: Items<Var>,
     mems: Items<Mem>,
     procs: Items<Proc>,
-) -> Result<Design, Fail> {
+) -> Result<Design, Fail>
+    ensures vars { IfOk result (λ d. length d.vars < 2 ^ 32) }
+    ensures mems { IfOk result (λ d. length d.mems < 2 ^ 32) }
+    ensures procs { IfOk result (λ d. length d.procs < 2 ^ 32) }
+{
+    if vars.len() > 9 || mems.len() > 9 || procs.len() > 9 {
+        return Err(Fail::from("too many"));
+    }
     let mut scopes = Items::new(alloc);
     scopes.push(FlatScope {
         path: Text::new(Vec::new(alloc)),
@@ -137,7 +144,11 @@ fn design(
 }
 
 /// `y[3:0] = a`, `y[6:5] <= a` and `y[second] = a`, of which the second one is clocked.
-fn parts(alloc: Global, second: u128) -> Result<Design, Fail> {
+fn parts(alloc: Global, second: u128) -> Result<Design, Fail>
+    ensures vars { IfOk result (λ d. length d.vars < 2 ^ 32) }
+    ensures mems { IfOk result (λ d. length d.mems < 2 ^ 32) }
+    ensures procs { IfOk result (λ d. length d.procs < 2 ^ 32) }
+{
     let mut vars = Items::new(alloc);
     vars.push(var(alloc, 8)?)?;
     vars.push(var(alloc, 8)?)?;
@@ -152,7 +163,11 @@ fn parts(alloc: Global, second: u128) -> Result<Design, Fail> {
 }
 
 /// `m[0] = a` at addresses from -1 on, and a clocked `b = m[a]`.
-fn table(alloc: Global) -> Result<Design, Fail> {
+fn table(alloc: Global) -> Result<Design, Fail>
+    ensures vars { IfOk result (λ d. length d.vars < 2 ^ 32) }
+    ensures mems { IfOk result (λ d. length d.mems < 2 ^ 32) }
+    ensures procs { IfOk result (λ d. length d.procs < 2 ^ 32) }
+{
     let mut vars = Items::new(alloc);
     vars.push(var(alloc, 8)?)?;
     vars.push(var(alloc, 16)?)?;
