@@ -205,6 +205,27 @@ fn add_shadows(
     Ok(())
 }
 
+/// The words of a line, whose bits have these writers.
+fn layout_of(
+    alloc: Global,
+    procs: &[Proc],
+    line: &BitLine,
+    writers: &[Option<u32>],
+) -> Result<Layout, CutFault>
+    requires vars { line.now.vars < 2 ^ 32 }
+    requires mems { length line.now.items < line.now.vars + 2 ^ 32 }
+    requires writers { (b : ℕ) → spec.noted writers.now b ≡ spec.writer_of line.now procs.now b }
+    ensures words { IfOk result (λ layout. layout.words.items ≡ spec.words_in line.now procs.now) }
+    ensures few { IfOk result (λ layout. length layout.words.items ≤ WORDS) }
+    ensures many { IfErr result (ManyIf (WORDS < length (spec.words_in line.now procs.now))) }
+{
+    let mut words = Vec::new(alloc);
+    add_word(TABLE_WORD, &mut words)?;
+    add_items(alloc, line, writers, &mut words)?;
+    add_shadows(procs, line, writers, &mut words)?;
+    Ok(Layout { words })
+}
+
 /// The words of a design.
 ///
 /// `TooMany`: there are more than [`limits::WORDS`] of them.
@@ -224,16 +245,7 @@ pub fn cut(alloc: Global, design: &Design) -> Result<Layout, CutFault>
         return Err(CutFault::TooMany);
     }
     let writers = writers(alloc, design, &line, line.bits() as usize)?;
-    let mut words = Vec::new(alloc);
-    add_word(TABLE_WORD, &mut words)?;
-    add_items(alloc, &line, writers.as_slice(), &mut words)?;
-    add_shadows(
-        design.procs.as_slice(),
-        &line,
-        writers.as_slice(),
-        &mut words,
-    )?;
-    Ok(Layout { words })
+    layout_of(alloc, design.procs.as_slice(), &line, writers.as_slice())
 }
 
 /// More bits than these are more words than [`limits::WORDS`], since a word holds at most [`limits::WIDTH`] of them.
