@@ -43,9 +43,6 @@ elements_many top mem k ps e n mid start h g t =
     step_many top mid (map (word_of mem k e) ps) (element_words mem k ps (e + 1) (n - (e + 1))) (element_words mem k ps e (n - e)) start (element_words mem k ps 0 n)
     (element_next mem k ps e n h) g (omega (arith, length-map ps (word_of mem k e)))
 
-pub element_end : (mem : Bool) (k : ℕ) (ps : List Piece) (e n : ℕ) → n ≤ e → element_words mem k ps e (n - e) ≡ []
-element_end mem k ps e n h = let m : n - e ≡ 0 = omega arith in ap (element_words mem k ps e) m
-
 -- the shadow of the word at a number, and those of the words after it
 pub shadow_next : (line : Line) (procs : List Proc) (words : List Word) (n : ℕ) (word : Word) (writer : Option ℕ) → n < length words → word ≡ get_or words n word
     → writer ≡ writer_of line procs (place_of line word.holds)

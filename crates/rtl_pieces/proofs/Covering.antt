@@ -83,10 +83,3 @@ covers ns begun end from to some p q w k =
     ap (λ (x : Bool). x && ltb w end) (begins ns begun from w p k)
     ∙ ap (λ (x : Bool). ltb from (get_or ns (suc w) 0) && x) (ends ns end to w q k)
     ∙ swap (ltb from (get_or ns (suc w) 0)) (ltb (get_or ns w 0) to) (ltb from to) (lt-ltb from to some)
-
-none : (t : Bool) → (t && false) ≡ false
-none true = refl
-none false = refl
-
-pub covers_none : (from to w : ℕ) (x : Bool) → to ≤ from → (leb 0 w && ltb w 0) ≡ (ltb from to && x)
-covers_none from to w x h = ap (λ (t : Bool). leb 0 w && t) (le-ltb w 0 (omega arith)) ∙ none (leb 0 w) ∙ sym (ap (λ (t : Bool). t && x) (le-ltb from to h))

@@ -11,7 +11,6 @@ use Rattle.rtl_pieces.specs.declared.fault.DriverFault.TheVariants.{NoMemory, Mu
 use Rattle.rtl_pieces.specs.Line.{Line, inside, is_bit, place_of}
 use Rattle.rtl_pieces.specs.Owned.{owns, owned_by, lesser, with_owned, least_of, IsLeast, LeastShared, Single}
 use Rattle.rtl_pieces.specs.Drivers.{IsDouble, IsFault}
-use Rattle.rtl_pieces.proofs.Doubles.{has_first, has_second, is_double}
 
 -- the tests that agree have the same least
 least_same : (f g : ℕ → Bool) (least : ℕ) (found : Option ℕ) → ((p : ℕ) → f p ≡ g p) → IsLeast f least found → IsLeast g least found
@@ -78,17 +77,6 @@ least_all least b all found e =
 pub least_end : (least b : ℕ) (found : Option ℕ) (rest : List OwnedRange) (all : Option ℕ) → length rest < 1 → least_of least b found rest ≡ all → found ≡ all
 least_end least b found [] all h e = e
 least_end least b found (o ∷ more) all h e = absurd (omega arith)
-
--- ---- the first two
-
-pub double_from : (line : Line) (writes : ℕ → ℕ → Bool) (place : ℕ) (bit : BitRef) (first second : Option ℕ) → LeastShared writes place → place_of line bit ≡ place → is_bit line bit ≡ true
-    → IsLeast (λ p. writes p place) 0 first → IsLeast (λ p. writes p place) (unwrap_or first 0 + 1) second
-    → IsDouble line writes bit (unwrap_or first 0) (unwrap_or second 0)
-double_from line writes place bit None second shared at there one two = absurd (has_first writes place shared (λ q. one q (omega arith)))
-double_from line writes place bit (Some p) None shared at there one two =
-    absurd (has_second writes place shared p one.1 (λ q k. one.2 q (omega arith) k) (λ q k. two q (omega arith)))
-double_from line writes place bit (Some p) (Some q) shared at there one two =
-    is_double writes place shared line bit p q at there one.1 (λ n k. one.2 n (omega arith) k) (omega (arith, two.0)) two.1 (λ n k l. two.2 n (omega arith) l)
 
 -- a fault of tests that agree
 pub fault_same : (line : Line) (f g : ℕ → ℕ → Bool) → ((p b : ℕ) → f p b ≡ g p b) → (fault : DriverFault) → IsFault line f fault → IsFault line g fault

@@ -3,7 +3,7 @@ pub mod Naming
 pub mod Merging
 pub mod Taking
 pub mod Sweeping
-pub mod Doubles
+pub mod Owning
 pub mod Least
 pub mod Tiling
 pub mod Listing

@@ -2,7 +2,7 @@ use Rattle.std.proofs.Common.{◌≡◌, ℕ, Bool, ◌||◌, ◌&&◌, eqb, map
 use Rattle.std.proofs.lemmas.Result.{on_ok_weaker}
 use Rattle.std.proofs.lemmas.List.Folds.{list_any-append}
 use Rattle.rtl_pieces.specs.Owned.{of_process, owned_by, owns}
-use Rattle.rtl_pieces.proofs.Doubles.{owned_by_one}
+use Rattle.rtl_pieces.proofs.Owning.{owned_by_one}
 use Rattle.rtl_pieces.proofs.owned.add_process.Goals as goal
 
 pub returns : goal.returns
