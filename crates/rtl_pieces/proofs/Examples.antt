@@ -1,14 +1,12 @@
 -- Small cases, worked out.
-use Rattle.std.proofs.Common.{◌≡◌, ℕ, Bool, true, false, List, [], ◌∷◌, Option, Some, None, ℤ, pos, negsuc, refl}
+use Rattle.std.proofs.Common.{◌≡◌, ℕ, true, false, [], ◌∷◌, Some, None, pos, negsuc, refl}
 use Rattle.std.specs.Prelude.{◌||◌, ◌==◌}
 use Rattle.rtl_pieces.specs.declared.range.BitRange.{BitRange}
 use Rattle.rtl_pieces.specs.declared.item.Item.{Item}
-use Rattle.rtl_pieces.specs.declared.item.Part.{Part}
-use Rattle.rtl_pieces.specs.declared.pieces.Piece.{Piece}
 use Rattle.rtl_pieces.specs.declared.owned.OwnedRange.{OwnedRange}
-use Rattle.rtl_pieces.specs.Line.{has, place_in}
+use Rattle.rtl_pieces.specs.Line.{has}
 use Rattle.rtl_pieces.specs.Named.{nothing, clipped, named_bits, whole_item}
-use Rattle.rtl_pieces.specs.Ranges.{empty, merged, below, minus}
+use Rattle.rtl_pieces.specs.Ranges.{empty, merged, minus}
 use Rattle.rtl_pieces.specs.Owned.{sweep}
 use Rattle.rtl_pieces.specs.Words.{pieces_from}
 

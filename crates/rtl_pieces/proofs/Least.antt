@@ -1,16 +1,13 @@
 -- The first process from a number on with a range that has a bit, as a walk over the ranges finds it.
-use Rattle.std.proofs.Common.{◌≡◌, ℕ, suc, ◌+◌, ◌<◌, ◌≤◌, min, Bool, true, false, cond, ◌||◌, ◌&&◌, leb, ltb, eqb, List, [], ◌∷◌, length, Option, Some, None, refl, sym, ap, ◌∙◌, subst, arith, inl, inr}
-use Rattle.std.specs.Prelude.{if◌then◌else◌, nat_le, nat_lt}
-use Rattle.std.specs.Option.{unwrap_or}
-use Rattle.std.specs.List.{list_any}
-use Rattle.std.proofs.lemmas.Bool.{cases_lt, cases_order, cases_Bool, and_left, and_parts, and_from, ne_eqb, eqb-true, le-leb, leb-true, or_from, or_left, or_right, both_ways, false_from_ne_true, false≢true}
+use Rattle.std.proofs.Common.{◌≡◌, ℕ, ◌<◌, ◌≤◌, min, Bool, true, false, ◌||◌, ◌&&◌, leb, eqb, List, [], ◌∷◌, length, Option, Some, None, refl, sym, ap, ◌∙◌, subst, arith, inl, inr}
+use Rattle.std.specs.Prelude.{if◌then◌else◌}
+use Rattle.std.proofs.lemmas.Bool.{cases_lt, and_left, and_parts, and_from, ne_eqb, eqb-true, le-leb, leb-true, or_from, or_left, or_right, both_ways, false_from_ne_true}
 use Rattle.rtl_pieces.specs.declared.owned.OwnedRange.{OwnedRange}
-use Rattle.rtl_pieces.specs.declared.bit.BitRef.{BitRef}
 use Rattle.rtl_pieces.specs.declared.fault.DriverFault.{DriverFault}
 use Rattle.rtl_pieces.specs.declared.fault.DriverFault.TheVariants.{NoMemory, MultipleDrivers}
-use Rattle.rtl_pieces.specs.Line.{Line, inside, is_bit, place_of}
-use Rattle.rtl_pieces.specs.Owned.{owns, owned_by, lesser, with_owned, least_of, IsLeast, LeastShared, Single}
-use Rattle.rtl_pieces.specs.Drivers.{IsDouble, IsFault}
+use Rattle.rtl_pieces.specs.Line.{Line, inside, place_of}
+use Rattle.rtl_pieces.specs.Owned.{owns, owned_by, lesser, with_owned, least_of, IsLeast}
+use Rattle.rtl_pieces.specs.Drivers.{IsFault}
 
 -- the tests that agree have the same least
 least_same : (f g : ℕ → Bool) (least : ℕ) (found : Option ℕ) → ((p : ℕ) → f p ≡ g p) → IsLeast f least found → IsLeast g least found

@@ -1,13 +1,8 @@
 -- The first writer of each bit, as processes are noted one after another.
-use Rattle.std.proofs.Common.{◌≡◌, ℕ, zero, suc, ◌+◌, ◌<◌, ◌≤◌, Bool, true, false, cond, ◌||◌, ◌&&◌, leb, ltb, eqb, List, [], ◌∷◌, ◌++◌, take, drop, length, set, Option, Some, None, refl, sym, ap, ◌∙◌, arith, inl, inr}
-use Rattle.std.specs.Prelude.{if◌then◌else◌, nat_le, nat_lt, slice_get}
-use Rattle.std.proofs.lemmas.List.{append-nil}
-use Rattle.std.proofs.lemmas.Bool.{cases_eq, eq-eqb, ne_eqb}
+use Rattle.std.proofs.Common.{◌≡◌, ℕ, zero, suc, ◌+◌, ◌<◌, ◌≤◌, Bool, true, false, ◌||◌, ◌&&◌, leb, ltb, eqb, Option, Some, None, refl, sym, ap, ◌∙◌, arith}
+use Rattle.std.specs.Prelude.{if◌then◌else◌}
 use Rattle.std.proofs.lemmas.Bool.Decides.{nat_tests}
-use Rattle.rtl_pieces.specs.declared.range.BitRange.{BitRange}
-use Rattle.rtl_pieces.specs.Line.{inside, has}
-use Rattle.rtl_pieces.specs.Words.{flat, noted, noted_also, in_list, first_writer}
-use Rattle.rtl_pieces.proofs.Merging.{and_or}
+use Rattle.rtl_pieces.specs.Words.{noted_also, first_writer}
 
 -- a process that is noted twice
 pub also_twice : (before : Option ℕ) (x y : Bool) (p : ℕ) → noted_also (noted_also before x p) y p ≡ noted_also before (x || y) p

@@ -1,10 +1,9 @@
 -- The bits of a name at a constant address, and a select with a constant index.
-use Rattle.std.proofs.Common.{◌≡◌, ℕ, Bool, true, false, Option, Some, None, ℤ, refl, sym, ap, ◌∙◌}
+use Rattle.std.proofs.Common.{◌≡◌, ℕ, Bool, false, Option, Some, ℤ, sym, ap, ◌∙◌}
 use Rattle.std.specs.Option.{option_map}
 use Rattle.rtl_ir.specs.declared.expr.Target.{Target, out-Target}
 use Rattle.rtl_ir.specs.declared.expr.Select.{Select, out-Select}
 use Rattle.rtl_pieces.specs.declared.item.Item.{Item}
-use Rattle.rtl_pieces.specs.declared.item.Part.{Part}
 use Rattle.rtl_pieces.specs.Reads.{by_select, by_address, address_in, bits_by, part, part_by, expr_constant, select_part, target_bits}
 use Rattle.rtl_pieces.specs.ReadsLaws.{bits_is, part_is}
 

@@ -1,6 +1,6 @@
 -- The pieces of a design stand one behind the other and cover its line, so each bit is in exactly one of them.
-use Rattle.std.proofs.Common.{◌≡◌, ℕ, zero, suc, ◌+◌, ◌-◌, ◌*◌, ◌<◌, ◌≤◌, Bool, true, false, cond, ◌&&◌, ltb, leb, eqb, List, [], ◌∷◌, ◌++◌, map, length, Option, Some, None, refl, sym, ap, ◌∙◌, subst, arith}
-use Rattle.std.specs.Prelude.{◌^◌, if◌then◌else◌, nat_lt, nat_le, slice_get, ⊤}
+use Rattle.std.proofs.Common.{◌≡◌, ℕ, zero, suc, ◌+◌, ◌-◌, ◌*◌, ◌<◌, ◌≤◌, Bool, true, false, ◌&&◌, ltb, leb, eqb, List, [], ◌∷◌, ◌++◌, map, length, Option, Some, refl, sym, ap, ◌∙◌, subst, arith}
+use Rattle.std.specs.Prelude.{◌^◌, if◌then◌else◌, nat_lt, slice_get, ⊤}
 use Rattle.std.specs.List.{list_all}
 use Rattle.std.proofs.lemmas.Bool.{eq-eqb, eqb-true, leb-true, lt-ltb, and_parts, and_from, ltb-true, ltb-false, cond-true, cond_both}
 use Rattle.vs_base.specs.declared.limits.TheConstants.{WIDTH}
@@ -11,8 +11,8 @@ use Rattle.rtl_pieces.specs.declared.item.Item.{Item}
 use Rattle.rtl_pieces.specs.declared.layout.Word.{Word}
 use Rattle.rtl_pieces.specs.declared.pieces.Piece.{Piece}
 use Rattle.rtl_pieces.specs.Near.{is_near}
-use Rattle.rtl_pieces.specs.Line.{Line, var_item, mem_item, var_items, mem_items, size_of, end_of, items_of, line_of, stand_behind, Placed, no_item, item_or_none, item_in, items_in, place_in, place_of}
-use Rattle.rtl_pieces.specs.Words.{pieces_from, pieces_of, is_cut, word_of, element_words, item_words, words_from, writer_of, pieces_in, Tiles}
+use Rattle.rtl_pieces.specs.Line.{Line, var_items, mem_items, size_of, end_of, line_of, stand_behind, Placed, no_item, item_or_none, items_in, place_in, place_of}
+use Rattle.rtl_pieces.specs.Words.{pieces_from, is_cut, word_of, element_words, item_words, words_from, writer_of, pieces_in, Tiles}
 
 -- ---- the items of a design stand one behind the other
 

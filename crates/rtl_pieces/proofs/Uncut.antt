@@ -1,16 +1,14 @@
 -- The bits of a piece have one writer, or none, since the element is not cut between them.
-use Rattle.std.proofs.Common.{◌≡◌, ℕ, zero, suc, ◌+◌, ◌-◌, ◌*◌, ◌<◌, ◌≤◌, Bool, true, false, not, ◌||◌, ◌&&◌, ltb, eqb, List, [], ◌∷◌, ◌++◌, map, length, Option, Some, None, refl, sym, ap, ◌∙◌, subst, arith, inl, inr}
+use Rattle.std.proofs.Common.{◌≡◌, ℕ, zero, suc, ◌+◌, ◌-◌, ◌<◌, ◌≤◌, Bool, true, false, not, ltb, List, [], ◌∷◌, map, Option, Some, None, refl, sym, ap, ◌∙◌, subst, arith, inl, inr}
 use Rattle.std.specs.Prelude.{if◌then◌else◌, nat_lt, slice_get}
 use Rattle.std.specs.List.{All, list_all}
 use Rattle.std.proofs.lemmas.List.Elements.{All-nil, All-cons, All-append}
 use Rattle.std.proofs.lemmas.Bool.{cases_lt, or_parts, not-false, eqb-true, false≢true, and_from, and_parts, lt-ltb, ltb-true, ltb-false}
 use Rattle.rtl_ir.specs.declared.design.Proc.{Proc}
 use Rattle.rtl_pieces.specs.declared.item.Item.{Item}
-use Rattle.rtl_pieces.specs.declared.layout.Word.{Word}
-use Rattle.rtl_pieces.specs.declared.pieces.Piece.{Piece}
 use Rattle.rtl_pieces.specs.Near.{is_near}
 use Rattle.rtl_pieces.specs.Line.{Line, items_in, is_bit_in, place_in, place_of}
-use Rattle.rtl_pieces.specs.Words.{same_writer, is_cut, pieces_from, pieces_of, word_of, element_words, item_words, words_from, writer_of, pieces_in, IsPiece}
+use Rattle.rtl_pieces.specs.Words.{same_writer, is_cut, pieces_from, word_of, element_words, item_words, words_from, writer_of, pieces_in, IsPiece}
 use Rattle.rtl_pieces.proofs.Tiling.{in_vars, in_mems, near_width}
 
 same_from : (x y : Option ℕ) → same_writer x y ≡ true → x ≡ y

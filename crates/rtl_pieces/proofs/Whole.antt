@@ -1,6 +1,6 @@
 -- The words of a layout together.
-use Rattle.std.proofs.Common.{◌≡◌, ℕ, zero, suc, ◌+◌, ◌-◌, ◌*◌, ◌<◌, ◌≤◌, Bool, true, false, ◌&&◌, leb, ltb, List, [], ◌∷◌, ◌++◌, map, length, drop, Option, refl, sym, ap, ◌∙◌, subst, arith, length-append}
-use Rattle.std.specs.Prelude.{◌^◌, if◌then◌else◌, nat_lt, nat_le}
+use Rattle.std.proofs.Common.{◌≡◌, ℕ, suc, ◌+◌, ◌-◌, ◌*◌, ◌<◌, ◌≤◌, Bool, true, false, ◌&&◌, leb, List, [], ◌∷◌, ◌++◌, length, drop, Option, ap, ◌∙◌, arith, length-append}
+use Rattle.std.specs.Prelude.{◌^◌, if◌then◌else◌, nat_lt}
 use Rattle.std.specs.List.{list_all}
 use Rattle.std.proofs.Math.Path.{fun_ext}
 use Rattle.std.proofs.lemmas.Bool.{and_parts, leb-true, cond_both}
@@ -10,7 +10,7 @@ use Rattle.rtl_pieces.specs.declared.item.Item.{Item}
 use Rattle.rtl_pieces.specs.declared.layout.Word.{Word}
 use Rattle.rtl_pieces.specs.Near.{is_near}
 use Rattle.rtl_pieces.specs.Line.{Line, Placed}
-use Rattle.rtl_pieces.specs.Words.{noted, pieces_of, is_cut, element_words, item_words, words_from, table_word, writer_of, shadows_of, pieces_in, words_in, Tiles}
+use Rattle.rtl_pieces.specs.Words.{noted, is_cut, item_words, words_from, table_word, writer_of, shadows_of, pieces_in, words_in}
 use Rattle.rtl_pieces.proofs.Tiling.{Short, short_append, elements_short, short_length, pieces_tile}
 
 near_widths : (item : Item) → is_near item ≡ true → (1 ≤ item.width) × (item.width ≤ WIDTH)

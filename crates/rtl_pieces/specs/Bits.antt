@@ -1,5 +1,5 @@
 -- What a process reads and writes: bits of the design, by their places in its line.
-use Rattle.std.specs.Prelude.{ℕ, zero, suc, ◌-◌, ◌++◌, ◌≤◌, Bool, true, false, ◌&&◌, not, ◌≡◌, ◌==◌, ⊤, nat_lt, List, [], ◌∷◌, Option, Some, None, slice_get}
+use Rattle.std.specs.Prelude.{ℕ, zero, suc, ◌-◌, ◌++◌, ◌≤◌, Bool, true, ◌&&◌, not, ◌≡◌, ◌==◌, ⊤, nat_lt, List, [], ◌∷◌, Option, Some, None, slice_get}
 use Rattle.rtl_ir.specs.declared.design.Proc.{Proc}
 use Rattle.rtl_ir.specs.declared.whole.Design.{Design}
 use Rattle.std.specs.List.{list_any}

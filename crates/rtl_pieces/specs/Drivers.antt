@@ -1,5 +1,5 @@
 -- What a fault of drivers tells: the least bit that two processes write, and the first two that write it (IEEE 1800-2017 9.2.2.2, 10.3.2).
-use Rattle.std.specs.Prelude.{ℕ, ◌<◌, ◌≡◌, Bool, true, false, ⊤}
+use Rattle.std.specs.Prelude.{ℕ, ◌<◌, ◌≡◌, Bool, true, ⊤}
 use Rattle.rtl_pieces.specs.declared.bit.BitRef.{BitRef}
 use Rattle.rtl_pieces.specs.declared.fault.DriverFault.{DriverFault}
 use Rattle.rtl_pieces.specs.declared.fault.DriverFault.TheVariants.{NoMemory, MultipleDrivers}

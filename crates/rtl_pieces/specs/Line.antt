@@ -1,6 +1,6 @@
 -- The bits of a design in one line: those of the variables in list order, then those of the memories in list order, and within one of
 -- these by address and by bit number. A bit goes by its place in this line, and a set of bits by ranges of places.
-use Rattle.std.specs.Prelude.{ℕ, ◌+◌, ◌-◌, ◌*◌, ◌==◌, ◌≡◌, Bool, true, false, ◌&&◌, if◌then◌else◌, nat_le, nat_lt, List, [], ◌∷◌, ◌++◌, length, Option, Some, None, slice_get, ℤ, pos}
+use Rattle.std.specs.Prelude.{ℕ, ◌+◌, ◌-◌, ◌*◌, ◌==◌, ◌≡◌, Bool, true, false, ◌&&◌, if◌then◌else◌, nat_le, nat_lt, List, [], ◌∷◌, ◌++◌, length, Option, Some, None, slice_get, pos}
 use Rattle.std.specs.List.{list_any}
 use Rattle.rtl_ir.specs.declared.design.Var.{Var}
 use Rattle.rtl_ir.specs.declared.design.Mem.{Mem}

@@ -1,6 +1,6 @@
 -- The bits that a name with its selects stands for. A select of constants stands for its own bits, and for none where it is out of
 -- range; any other stands for the whole variable or the whole memory (IEEE 1800-2017 11.5.1 to 11.5.3).
-use Rattle.std.specs.Prelude.{ℕ, ◌+◌, ◌-◌, ◌*◌, min, Bool, true, false, if◌then◌else◌, nat_lt, Option, Some, None, ℤ, pos, negsuc, ◌+ℤ◌, ◌-ℤ◌}
+use Rattle.std.specs.Prelude.{ℕ, ◌+◌, ◌-◌, ◌*◌, min, if◌then◌else◌, nat_lt, Option, Some, None, ℤ, pos, negsuc, ◌+ℤ◌, ◌-ℤ◌}
 use Rattle.rtl_pieces.specs.declared.range.BitRange.{BitRange}
 use Rattle.rtl_pieces.specs.declared.item.Item.{Item}
 use Rattle.rtl_pieces.specs.declared.item.Part.{Part}

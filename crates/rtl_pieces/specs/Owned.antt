@@ -1,5 +1,5 @@
 -- Ranges with the processes that write them.
-use Rattle.std.specs.Prelude.{ℕ, suc, ◌<◌, ◌≤◌, min, ◌≡◌, Bool, true, false, if◌then◌else◌, ◌&&◌, not, ◌==◌, nat_le, nat_lt, List, [], ◌∷◌, Option, Some, None, ⊤}
+use Rattle.std.specs.Prelude.{ℕ, ◌<◌, ◌≤◌, min, ◌≡◌, Bool, true, false, if◌then◌else◌, ◌&&◌, not, ◌==◌, nat_le, nat_lt, List, [], ◌∷◌, Option, Some, None, ⊤}
 use Rattle.std.specs.List.{list_any}
 use Rattle.rtl_pieces.specs.declared.owned.OwnedRange.{OwnedRange}
 use Rattle.rtl_pieces.specs.declared.range.BitRange.{BitRange}

@@ -1,5 +1,5 @@
 -- Sets of bits as ascending ranges with gaps between them.
-use Rattle.std.specs.Prelude.{ℕ, suc, ◌+◌, ◌<◌, ◌≤◌, max, min, Bool, true, false, if◌then◌else◌, nat_le, nat_lt, List, [], ◌∷◌, ◌++◌, ⊤}
+use Rattle.std.specs.Prelude.{ℕ, suc, ◌<◌, ◌≤◌, max, min, if◌then◌else◌, nat_le, nat_lt, List, [], ◌∷◌, ◌++◌, ⊤}
 use Rattle.rtl_pieces.specs.declared.range.BitRange.{BitRange}
 
 abbrev pub first_place : BitRange → ℕ

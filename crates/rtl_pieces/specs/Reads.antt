@@ -1,6 +1,6 @@
 -- What an expression reads: the bits of each name in it, and what the indices of its selects read, where a constant reads nothing
 -- (IEEE 1800-2017 9.2.2.2.1).
-use Rattle.std.specs.Prelude.{ℕ, Bool, true, false, if◌then◌else◌, nat_le, List, [], ◌∷◌, ◌++◌, map, Option, Some, None, ℤ}
+use Rattle.std.specs.Prelude.{ℕ, Bool, if◌then◌else◌, nat_le, List, [], ◌∷◌, ◌++◌, map, Option, Some, None, ℤ}
 use Rattle.std.specs.Option.{option_map}
 use Rattle.vs_base.specs.Number.{Number, reading}
 use Rattle.vs_base.specs.declared.limits.TheConstants.{WIDTH}

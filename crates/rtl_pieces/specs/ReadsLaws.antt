@@ -1,5 +1,5 @@
 -- The equations of what an expression reads, one for each form.
-use Rattle.std.proofs.Common.{◌≡◌, ℕ, Bool, List, [], ◌∷◌, ◌++◌, map, Option, Some, None, ℤ, refl, sym, ap, ◌∙◌}
+use Rattle.std.proofs.Common.{◌≡◌, ℕ, Bool, List, [], ◌∷◌, ◌++◌, map, Option, Some, None, refl, sym, ap, ◌∙◌}
 use Rattle.std.specs.Option.{option_map}
 use Rattle.vs_base.specs.Number.{Number}
 use Rattle.rtl_ir.specs.declared.expr.Expr.{Expr}
@@ -15,8 +15,7 @@ use Rattle.rtl_ir.specs.declared.expr.ExprNode.TheFolds.{map-Target, fold-roll-E
 use Rattle.rtl_ir.specs.declared.expr.ExprNode.TheVariants as node
 use Rattle.rtl_pieces.specs.declared.range.BitRange.{BitRange}
 use Rattle.rtl_pieces.specs.declared.item.Item.{Item}
-use Rattle.rtl_pieces.specs.declared.item.Part.{Part}
-use Rattle.rtl_pieces.specs.Reads.{Notes, Seen, Taken, Named, in_order, bits_by, constant_of, part_by, of_parts, nothing_more, all_seen, seen_or_none, taken_or_none, call_layer, choice_layer, select_layer, target_layer, node_layer, expr_layer, node_seen, call_reads, choice_reads, expr_seen, select_taken, target_named, node_reads, node_constant, expr_reads, expr_constant, select_reads, select_part, target_indices, target_bits, exprs_read}
+use Rattle.rtl_pieces.specs.Reads.{Notes, Seen, Taken, Named, in_order, bits_by, constant_of, part_by, all_seen, call_layer, choice_layer, select_layer, target_layer, node_layer, expr_layer, node_seen, call_reads, choice_reads, expr_seen, select_taken, target_named, node_reads, node_constant, expr_reads, expr_constant, select_reads, select_part, target_indices, target_bits, exprs_read}
 
 -- what is read where there is one
 abbrev pub some_reads : Option Notes → Notes

@@ -1,5 +1,4 @@
-use Rattle.std.proofs.Common.{◌≡◌, map, rules, arith}
-use Rattle.std.proofs.lemmas.Grind.{common_steps}
+use Rattle.std.proofs.Common.{map}
 use Rattle.rtl_pieces.specs.Line.{place_of}
 use Rattle.rtl_pieces.specs.Bits.{places_in}
 use Rattle.rtl_pieces.proofs.Listing.{lists_has, rises, places_end}

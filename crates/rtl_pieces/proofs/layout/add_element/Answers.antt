@@ -1,7 +1,5 @@
-use Rattle.std.proofs.Common.{◌≡◌, ◌<◌, ◌+◌, ◌++◌, ◌∷◌, [], List, map, length, ap, sym, arith}
 use Rattle.std.proofs.lemmas.Result.{err_from_is_err_and}
 use Rattle.vs_base.specs.declared.limits.TheConstants.{WORDS}
-use Rattle.rtl_pieces.specs.declared.pieces.Piece.{Piece}
 use Rattle.rtl_pieces.specs.Words.{word_of}
 use Rattle.rtl_pieces.proofs.Counting.{many_weaker, pieces_many}
 use Rattle.rtl_pieces.proofs.layout.add_element.Goals as goal

@@ -1,4 +1,4 @@
-use Rattle.std.proofs.Common.{◌≡◌, ◌≤◌, ◌++◌, map, drop, length}
+use Rattle.std.proofs.Common.{◌≡◌, ◌≤◌, ◌++◌, map, length}
 use Rattle.vs_base.specs.declared.limits.TheConstants.{WORDS}
 use Rattle.rtl_pieces.specs.Words.{word_of}
 use Rattle.rtl_pieces.proofs.layout.add_element.Given as goal

@@ -1,4 +1,4 @@
-use Rattle.std.proofs.Common.{◌≡◌, ◌-◌, ◌+◌, ◌<◌, map, length}
+use Rattle.std.proofs.Common.{◌-◌, ◌+◌, map}
 use Rattle.std.proofs.lemmas.Result.{err_from_is_err_and}
 use Rattle.vs_base.specs.declared.limits.TheConstants.{WORDS}
 use Rattle.rtl_pieces.specs.Words.{word_of, element_words}

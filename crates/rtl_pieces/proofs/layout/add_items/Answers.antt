@@ -1,4 +1,3 @@
-use Rattle.std.proofs.Common.{◌≡◌, ◌++◌, refl}
 use Rattle.std.proofs.lemmas.Result.{err_from_is_err_and}
 use Rattle.vs_base.specs.declared.limits.TheConstants.{WORDS}
 use Rattle.rtl_pieces.specs.Words.{noted, words_from}

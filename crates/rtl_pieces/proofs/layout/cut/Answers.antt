@@ -1,4 +1,4 @@
-use Rattle.std.proofs.Common.{◌≡◌, ◌<◌, ◌*◌, ◌∙◌, List, length, ap, subst, arith}
+use Rattle.std.proofs.Common.{◌<◌, ◌*◌, ◌∙◌, List, length, ap, subst, arith}
 use Rattle.std.proofs.lemmas.Result.{IfOk-weaker, IfErr-weaker}
 use Rattle.std.specs.List.{All}
 use Rattle.vs_base.specs.declared.limits.TheConstants.{WORDS}

@@ -1,4 +1,4 @@
-use Rattle.std.proofs.Common.{◌≡◌, ◌<◌, ◌∙◌, sym, length, get_or, ap, arith}
+use Rattle.std.proofs.Common.{◌≡◌, ◌∙◌, sym, ap}
 use Rattle.rtl_pieces.specs.Line.{items_in}
 use Rattle.rtl_pieces.specs.Reads.{choice_reads, expr_reads}
 use Rattle.rtl_pieces.specs.ReadsLaws.{choice_is}

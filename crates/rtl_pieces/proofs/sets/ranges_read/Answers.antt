@@ -1,7 +1,7 @@
-use Rattle.std.proofs.Common.{◌≡◌, ℕ, Bool, ◌&&◌, not, ap, sym, ◌∙◌, subst}
+use Rattle.std.proofs.Common.{◌≡◌, Bool, ◌&&◌, not, ap, sym, ◌∙◌, subst}
 use Rattle.std.proofs.lemmas.Result.{IfOk-weaker}
 use Rattle.rtl_pieces.specs.Line.{has}
-use Rattle.rtl_pieces.specs.Bits.{names, writes}
+use Rattle.rtl_pieces.specs.Bits.{names}
 use Rattle.rtl_pieces.specs.Ranges.{Ascending, AllBelow, minus}
 use Rattle.rtl_pieces.proofs.Taking.{minus_has, minus_ascends, minus_within}
 use Rattle.rtl_pieces.proofs.sets.ranges_read.Goals as goal

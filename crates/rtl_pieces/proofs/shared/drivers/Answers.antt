@@ -1,8 +1,8 @@
-use Rattle.std.proofs.Common.{◌≡◌, ◌<◌, ◌∙◌, ℕ, List, Some, None, true, length, ap, sym, subst, arith}
+use Rattle.std.proofs.Common.{◌≡◌, ◌∙◌, ℕ, List, Some, None, true, ap, sym, subst}
 use Rattle.rtl_pieces.specs.declared.owned.OwnedRange.{OwnedRange}
 use Rattle.rtl_pieces.specs.Line.{Line}
-use Rattle.rtl_pieces.specs.Bits.{writes, line_in}
-use Rattle.rtl_pieces.specs.Owned.{owned_by, sweep, LeastShared, Single}
+use Rattle.rtl_pieces.specs.Bits.{writes}
+use Rattle.rtl_pieces.specs.Owned.{owned_by, sweep, LeastShared}
 use Rattle.rtl_pieces.specs.Drivers.{IsFault}
 use Rattle.rtl_pieces.proofs.Finding.{few_items, placed_line}
 use Rattle.rtl_pieces.proofs.Driving.{sorted_writes, inside_line, single_writes, least_shared, none_shared}

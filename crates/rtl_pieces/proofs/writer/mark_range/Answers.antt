@@ -1,4 +1,4 @@
-use Rattle.std.proofs.Common.{◌≡◌, ◌<◌, ℕ, length, arith}
+use Rattle.std.proofs.Common.{◌<◌, length, arith}
 use Rattle.rtl_pieces.specs.Words.{noted}
 use Rattle.rtl_pieces.proofs.Marking.{range_more}
 use Rattle.rtl_pieces.proofs.writer.mark_range.Goals as goal

@@ -1,4 +1,4 @@
-use Rattle.std.proofs.Common.{◌≡◌, ◌-◌, ◌≤◌, ◌&&◌, ℕ, max, length}
+use Rattle.std.proofs.Common.{◌≡◌, ◌-◌, ◌≤◌, ◌&&◌, ℕ, max}
 use Rattle.std.specs.Prelude.{nat_le, nat_lt}
 use Rattle.rtl_pieces.specs.Words.{noted, noted_also, in_list}
 use Rattle.rtl_pieces.proofs.writer.mark_range.Given as goal

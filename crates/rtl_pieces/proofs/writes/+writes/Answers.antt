@@ -1,4 +1,4 @@
-use Rattle.std.proofs.Common.{◌≡◌, ◌<◌, ◌∙◌, List, sym, length, get_or, ap, arith}
+use Rattle.std.proofs.Common.{◌≡◌, ◌∙◌, List, sym, ap}
 use Rattle.rtl_ir.specs.declared.stmt.Stmt.{Stmt}
 use Rattle.rtl_pieces.specs.Line.{items_in}
 use Rattle.rtl_pieces.specs.Writes.{arm_writes, branch_writes, body_writes}

@@ -1,4 +1,4 @@
-use Rattle.std.proofs.Common.{◌≡◌, ◌-◌, ◌≤◌, ◌∙◌, Bool, true, ℕ, leb, ltb, length, get_or, ap, sym, rules, arith}
+use Rattle.std.proofs.Common.{◌≡◌, ◌-◌, ◌≤◌, ◌∙◌, leb, length, ap, rules, arith}
 use Rattle.std.proofs.lemmas.List.Sorted.{IsPartitionPoint-from_clause}
 use Rattle.rtl_pieces.specs.declared.item.Item.{Item}
 use Rattle.rtl_pieces.specs.Line.{place_in, is_bit_in}
