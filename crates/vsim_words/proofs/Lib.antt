@@ -1,0 +1,4 @@
+mod Tails
+mod Counts
+mod Found
+mod Examples
