@@ -1,7 +1,6 @@
 -- Command lines, worked out.
-use Rattle.std.proofs.Common.{◌≡◌, ℕ, List, refl, [], ◌∷◌, codes}
-use Rattle.std.specs.Prelude.{Option, Some, None, replicate, length}
-use Rattle.std.specs.Option.{option_map}
+use Rattle.std.proofs.Common.{◌≡◌, List, refl, [], ◌∷◌, codes}
+use Rattle.std.specs.Prelude.{Some, None, replicate}
 use Rattle.clap.specs.Words.{Text}
 use Rattle.clap.proofs.OnLiterals.{clap_on_literals}
 use Rattle.dpi_host.specs.declared.mode.Mode.TheVariants as mode

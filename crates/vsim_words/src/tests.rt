@@ -198,7 +198,10 @@ fn other_words_are_usage(rt: HostRuntime) -> Result<(), Fail> {
     ];
     for line in &lines {
         let words = words_of(rt.alloc(), line)?;
-        assert!(rt; matches!(settings(rt.alloc(), &words), Err(WordsFault::Usage)), "{line}");
+        assert!(rt;
+            matches!(settings(rt.alloc(), &words), Err(WordsFault::Usage)),
+            "{line}"
+        );
     }
     for (more, fine) in [(63, true), (64, false)] {
         let mut words = words_of(rt.alloc(), "--lint-only d.sv")?;

@@ -1,4 +1,4 @@
-use Rattle.std.proofs.Common.{◌≡◌, ◌∙◌, List, map, string_bytes, sym, inl, inr}
+use Rattle.std.proofs.Common.{◌≡◌, map, string_bytes, inl, inr}
 use Rattle.clap.specs.Words.{app_of, rows_of, found_of}
 use Rattle.vsim_words.proofs.Found.{simple_at, free_at, found_some, found_none}
 use Rattle.vsim_words.proofs.command.parse.Goals as goal
