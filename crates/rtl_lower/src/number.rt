@@ -1,0 +1,62 @@
+//! Numbers that constant expressions give.
+
+ghost use Rattle.std.specs.Prelude.{◌≡◌, IfOk};
+
+use crate::fault::FlatFault;
+use crate::here::Here;
+use crate::kind::Kind;
+use rtl_ir::Width;
+use sv_expr::{const_value, own_value};
+use sv_tree::{Expr, Symbol};
+use vs_base::{Bits, limits};
+
+/// The value of a constant expression in a context.
+pub fn constant(expr: &Expr, here: &Here<'_>, kind: Kind) -> Result<Bits, FlatFault> {
+    match const_value(&here.view, expr, kind.value_type()) {
+        Ok(value) => Ok(value),
+        Err(fault) => Err(FlatFault::from(fault)),
+    }
+}
+
+/// The value of a constant expression, read with its own sign.
+fn number(expr: &Expr, here: &Here<'_>) -> Result<i128, FlatFault> {
+    match own_value(&here.view, expr) {
+        Ok(value) => Ok(value),
+        Err(fault) => Err(FlatFault::from(fault)),
+    }
+}
+
+/// How many times a replication stands.
+pub fn count_of(expr: &Expr, here: &Here<'_>) -> Result<u32, FlatFault> {
+    let count = number(expr, here)?;
+    match u32::try_from(count) {
+        Ok(count) => Ok(count),
+        Err(_) => Err(FlatFault::NotElaborated),
+    }
+}
+
+/// How many bits a part select has: `[m:l]` those from l to m, `[e +: c]` and `[e -: c]` c.
+pub fn part_width(
+    mark: Symbol,
+    from: &Expr,
+    to: &Expr,
+    here: &Here<'_>,
+) -> Result<Width, FlatFault> {
+    let to = number(to, here)?;
+    if !matches!(mark, Symbol::Colon) {
+        return width_of(to);
+    }
+    let from = number(from, here)?;
+    width_of(from.saturating_sub(to).saturating_add(1))
+}
+
+/// So many bits.
+pub fn width_of(bits: i128) -> Result<Width, FlatFault> {
+    if bits < 1 || bits > i128::from(limits::WIDTH) {
+        return Err(FlatFault::NotElaborated);
+    }
+    match u32::try_from(bits) {
+        Ok(bits) => Ok(Width::new(bits)),
+        Err(_) => Err(FlatFault::NotElaborated),
+    }
+}
