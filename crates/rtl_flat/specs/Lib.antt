@@ -1,1 +1,4 @@
+pub mod Imports
+pub mod ImportsLaws
 pub mod Laid
+pub mod Ports

@@ -1,13 +1,16 @@
-ghost use Rattle.std.specs.Prelude.{◌≡◌, map, IfOk};
-ghost use Rattle.rtl_flat.specs.Laid.{flat_scope_of};
+ghost use Rattle.std.specs.Prelude.{◌≡◌, Some, map, IfOk};
+ghost use Rattle.std.specs.List.{All};
+ghost use Rattle.rtl_flat.specs.Imports as imports;
+ghost use Rattle.rtl_flat.specs.Laid.{VarStands, MemStands, flat_scope_of};
+ghost use Rattle.rtl_flat.specs.Ports as ports;
 
 use crate::given::Places;
 use crate::imports::{flat_imports, imports_in, number_of};
+use crate::ports::{module_named, top_ports};
 use crate::processes::{Lowering, import_denoted};
 use crate::text::copied;
-use crate::variables::{Extent, Variables, variables_of};
+use crate::variables::{Variables, declarations_of, laid_down};
 use crate::walk::Walk;
-use elab_types::Direction;
 use rtl_ir::{Design, FlatScope, Import, Port, Proc};
 use rtl_lower::FlatFault;
 use sqlite_items::Items;
@@ -25,6 +28,10 @@ pub fn flatten(
     scopes: &Scopes,
 ) -> Result<Design, NoMemory>
     ensures scopes { IfOk result (λ d. d.scopes ≡ map flat_scope_of scopes.now.scopes.items) }
+    ensures imports { IfOk result (λ d. d.imports ≡ imports.flat_imports_of names.now tree.now) }
+    ensures ports { IfOk result (λ d. ports.top_ports names.now tree.now.descriptions scopes.now.scopes.items ≡ Some d.ports) }
+    ensures vars { IfOk result (λ d. All (VarStands scopes.now.scopes.items) d.vars) }
+    ensures mems { IfOk result (λ d. All (MemStands scopes.now.scopes.items) d.mems) }
 {
     match flattened(alloc, tree, names, scopes.scopes.as_slice()) {
         Ok(design) => Ok(design),
@@ -39,21 +46,47 @@ fn flattened(
     names: &Names,
     scopes: &[Scope],
 ) -> Result<Design, FlatFault>
-    ensures { IfOk result (λ d. d.scopes ≡ map flat_scope_of scopes.now) }
+    ensures scopes { IfOk result (λ d. d.scopes ≡ map flat_scope_of scopes.now) }
+    ensures imports { IfOk result (λ d. d.imports ≡ imports.flat_imports_of names.now tree.now) }
+    ensures ports { IfOk result (λ d. ports.top_ports names.now tree.now.descriptions scopes.now ≡ Some d.ports) }
+    ensures vars { IfOk result (λ d. All (VarStands scopes.now) d.vars) }
+    ensures mems { IfOk result (λ d. All (MemStands scopes.now) d.mems) }
 {
     let texts = imports_in(alloc, tree)?;
     let imports = flat_imports(alloc, names, texts.as_slice())?;
+    let parts = parts_of(alloc, tree, names, scopes, imports.as_slice(), texts.as_slice())?;
+    whole(alloc, scopes, parts, imports)
+}
+
+/// What the walks over a design give, and the ports of the top.
+#[derive(Drop)]
+struct Parts {
+    variables: Variables,
+    procs: Items<Proc>,
+    ports: Items<Port>,
+}
+
+/// The parts of the design of these imports.
+fn parts_of(
+    alloc: Global,
+    tree: &SourceTree,
+    names: &Names,
+    scopes: &[Scope],
+    imports: &[Import],
+    texts: &[&TreeImport],
+) -> Result<Parts, FlatFault>
+    ensures ports { IfOk result (λ parts. ports.top_ports names.now tree.now.descriptions scopes.now ≡ Some parts.ports) }
+    ensures vars { IfOk result (λ parts. All (VarStands scopes.now) parts.variables.vars) }
+    ensures mems { IfOk result (λ parts. All (MemStands scopes.now) parts.variables.mems) }
+{
     let variables = declared(alloc, tree, names, scopes)?;
-    let procs = processes(
-        alloc,
-        tree,
-        names,
-        scopes,
-        &variables,
-        imports.as_slice(),
-        texts.as_slice(),
-    )?;
-    whole(alloc, scopes, variables, imports, procs)
+    let procs = processes(alloc, tree, names, scopes, &variables, imports, texts)?;
+    let ports = ports_in(alloc, tree, names, scopes)?;
+    Ok(Parts {
+        variables,
+        procs,
+        ports,
+    })
 }
 
 /// The variables and memories.
@@ -62,9 +95,13 @@ fn declared(
     tree: &SourceTree,
     names: &Names,
     scopes: &[Scope],
-) -> Result<Variables, FlatFault> {
+) -> Result<Variables, FlatFault>
+    ensures vars { IfOk result (λ variables. All (VarStands scopes.now) variables.vars) }
+    ensures mems { IfOk result (λ variables. All (MemStands scopes.now) variables.mems) }
+{
     let mut walk = Walk::new(alloc, tree, names, scopes, &[])?;
-    variables_of(alloc, &mut walk)
+    let held = declarations_of(alloc, &mut walk)?;
+    laid_down(alloc, scopes, held)
 }
 
 /// The processes.
@@ -115,18 +152,25 @@ fn declare_imports(
 fn whole(
     alloc: Global,
     scopes: &[Scope],
-    variables: Variables,
+    parts: Parts,
     imports: Items<Import>,
-    procs: Items<Proc>,
 ) -> Result<Design, FlatFault>
-    ensures { IfOk result (λ d. d.scopes ≡ map flat_scope_of scopes.now) }
+    ensures scopes { IfOk result (λ d. d.scopes ≡ map flat_scope_of scopes.now) }
+    ensures imports { IfOk result (λ d. d.imports ≡ imports) }
+    ensures ports { IfOk result (λ d. d.ports ≡ parts.ports) }
+    ensures vars { IfOk result (λ d. d.vars ≡ parts.variables.vars) }
+    ensures mems { IfOk result (λ d. d.mems ≡ parts.variables.mems) }
 {
+    let Parts {
+        variables,
+        procs,
+        ports,
+    } = parts;
     let Variables {
         vars,
         mems,
-        extents,
+        extents: _,
     } = variables;
-    let ports = top_ports(alloc, extents.as_slice())?;
     let scopes = flat_scopes(alloc, scopes)?;
     match Design::new(vars, mems, procs, imports, ports, scopes) {
         Some(design) => Ok(design),
@@ -134,19 +178,22 @@ fn whole(
     }
 }
 
-/// The ports of the top, which are its first variables.
-fn top_ports(alloc: Global, extents: &[Extent]) -> Result<Items<Port>, FlatFault> {
-    let mut ports = Items::new(alloc);
-    let Some(top) = extents.first() else {
-        return Ok(ports);
+/// The ports of the module of the first scope.
+fn ports_in(
+    alloc: Global,
+    tree: &SourceTree,
+    names: &Names,
+    scopes: &[Scope],
+) -> Result<Items<Port>, FlatFault>
+    ensures { IfOk result (λ all. ports.top_ports names.now tree.now.descriptions scopes.now ≡ Some all) }
+{
+    let [top, ..] = scopes else {
+        return Err(FlatFault::NotElaborated);
     };
-    let mut var = top.first_var;
-    for direction in top.ports.as_slice() {
-        let input = matches!(direction, Direction::Input);
-        ports.push(Port { var, input })?;
-        var = var.saturating_add(1);
+    match module_named(tree.descriptions.as_slice(), top.module) {
+        Some(module) => top_ports(alloc, names, module),
+        None => Err(FlatFault::NotElaborated),
     }
-    Ok(ports)
 }
 
 /// The scopes of the design.

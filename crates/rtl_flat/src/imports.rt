@@ -1,7 +1,9 @@
 //! The imports of a tree (IEEE 1800-2017 35.5.4).
 
-ghost use Rattle.std.specs.Prelude.{◌≡◌, ◌≤◌, true, length, IfOk};
-ghost use Rattle.std.specs.List.{list_all};
+ghost use Rattle.std.specs.Prelude.{◌≡◌, ◌++◌, ◌∷◌, [], true, map, IfOk, OnOk};
+ghost use Rattle.std.specs.List.{flat_map, list_all};
+ghost use Rattle.elab_types.specs.Word as words;
+ghost use Rattle.rtl_flat.specs.Imports as spec;
 ghost use Rattle.rtl_ir.specs.Types.{is_type};
 
 use elab_types::{result_kind, word_kind};
@@ -20,19 +22,33 @@ use vs_base::{Origin, Text, ValueType, limits};
 pub fn imports_in<'t>(
     alloc: Global,
     tree: &'t SourceTree,
-) -> Result<Vec<&'t TreeImport>, FlatFault> {
+) -> Result<Vec<&'t TreeImport>, FlatFault>
+    ensures { IfOk result (λ list. map (λ x. x.now) list.items ≡ spec.imports_of tree.now) }
+{
     let mut list = Vec::new(alloc);
     for description in tree.descriptions.as_slice() {
-        match description {
-            Description::Import(import) => add_import(import, &mut list)?,
-            Description::Module(module) => add_items(module.items.as_slice(), &mut list)?,
-        }
+        add_description(description, &mut list)?;
     }
     Ok(list)
 }
 
+/// Adds the imports of a description.
+fn add_description<'t>(
+    description: &'t Description,
+    list: &mut Vec<&'t TreeImport>,
+) -> Result<(), FlatFault>
+    ensures { OnOk result (map (λ x. x.now) list.new.items ≡ map (λ x. x.now) list.old.items ++ spec.description_imports description.now) }
+{
+    match description {
+        Description::Import(import) => add_import(import, list),
+        Description::Module(module) => add_items(module.items.as_slice(), list),
+    }
+}
+
 /// Adds an import.
-fn add_import<'t>(import: &'t TreeImport, list: &mut Vec<&'t TreeImport>) -> Result<(), FlatFault> {
+fn add_import<'t>(import: &'t TreeImport, list: &mut Vec<&'t TreeImport>) -> Result<(), FlatFault>
+    ensures { OnOk result (map (λ x. x.now) list.new.items ≡ map (λ x. x.now) list.old.items ++ import.now ∷ []) }
+{
     match list.push(import) {
         Ok(()) => Ok(()),
         Err(_) => Err(FlatFault::NoMemory),
@@ -41,7 +57,9 @@ fn add_import<'t>(import: &'t TreeImport, list: &mut Vec<&'t TreeImport>) -> Res
 
 /// Adds the imports of items.
 #[cycle(imports)]
-fn add_items<'t>(items: &'t [Item], list: &mut Vec<&'t TreeImport>) -> Result<(), FlatFault> {
+fn add_items<'t>(items: &'t [Item], list: &mut Vec<&'t TreeImport>) -> Result<(), FlatFault>
+    ensures { OnOk result (map (λ x. x.now) list.new.items ≡ map (λ x. x.now) list.old.items ++ flat_map spec.item_imports items.now) }
+{
     for item in items {
         add_item(item, list)?;
     }
@@ -50,7 +68,10 @@ fn add_items<'t>(items: &'t [Item], list: &mut Vec<&'t TreeImport>) -> Result<()
 
 /// Adds the imports of an item.
 #[cycle(imports)]
-fn add_item<'t>(item: &'t Item, list: &mut Vec<&'t TreeImport>) -> Result<(), FlatFault> {
+#[tactic(auto, using(crate::specs::ImportsLaws::laws))]
+fn add_item<'t>(item: &'t Item, list: &mut Vec<&'t TreeImport>) -> Result<(), FlatFault>
+    ensures { OnOk result (map (λ x. x.now) list.new.items ≡ map (λ x. x.now) list.old.items ++ spec.item_imports item.now) }
+{
     match item {
         Item::Import(import) => add_import(import, list),
         Item::Generate { items, .. } => add_items(items.as_slice(), list),
@@ -63,16 +84,28 @@ fn add_item<'t>(item: &'t Item, list: &mut Vec<&'t TreeImport>) -> Result<(), Fl
             add_branches(branches.as_slice(), list)?;
             add_block(last.get(), list)
         }
-        _ => Ok(()),
+        Item::Instance { .. } => Ok(()),
+        Item::Empty(_) => Ok(()),
+        Item::Parameters { .. } => Ok(()),
+        Item::Variables { .. } => Ok(()),
+        Item::Assigns { .. } => Ok(()),
+        Item::Comb { .. } => Ok(()),
+        Item::Star { .. } => Ok(()),
+        Item::ParenStar { .. } => Ok(()),
+        Item::Clocked { .. } => Ok(()),
+        Item::Genvars { .. } => Ok(()),
     }
 }
 
 /// Adds the imports of branches.
 #[cycle(imports)]
+#[tactic(auto, using(crate::specs::ImportsLaws::laws))]
 fn add_branches<'t>(
     branches: &'t [ItemBranch],
     list: &mut Vec<&'t TreeImport>,
-) -> Result<(), FlatFault> {
+) -> Result<(), FlatFault>
+    ensures { OnOk result (map (λ x. x.now) list.new.items ≡ map (λ x. x.now) list.old.items ++ flat_map spec.branch_imports branches.now) }
+{
     for branch in branches {
         add_block(&branch.body, list)?;
     }
@@ -81,7 +114,10 @@ fn add_branches<'t>(
 
 /// Adds the imports of a block.
 #[cycle(imports)]
-fn add_block<'t>(block: &'t GenBlock, list: &mut Vec<&'t TreeImport>) -> Result<(), FlatFault> {
+#[tactic(auto, using(crate::specs::ImportsLaws::laws))]
+fn add_block<'t>(block: &'t GenBlock, list: &mut Vec<&'t TreeImport>) -> Result<(), FlatFault>
+    ensures { OnOk result (map (λ x. x.now) list.new.items ≡ map (λ x. x.now) list.old.items ++ spec.block_imports block.now) }
+{
     match block {
         GenBlock::Item(item) => add_item(item.get(), list),
         GenBlock::Block { items, .. } => add_items(items.as_slice(), list),
@@ -93,7 +129,9 @@ pub fn flat_imports(
     alloc: Global,
     names: &Names,
     list: &[&TreeImport],
-) -> Result<Items<Import>, FlatFault> {
+) -> Result<Items<Import>, FlatFault>
+    ensures { IfOk result (λ all. all ≡ map (λ x. spec.flat_import_of names.now x.now) list.now) }
+{
     let mut all = Items::new(alloc);
     for import in list {
         all.push(flat_import(alloc, names, import)?)?;
@@ -102,7 +140,9 @@ pub fn flat_imports(
 }
 
 /// An import of a design.
-fn flat_import(alloc: Global, names: &Names, import: &TreeImport) -> Result<Import, FlatFault> {
+fn flat_import(alloc: Global, names: &Names, import: &TreeImport) -> Result<Import, FlatFault>
+    ensures { IfOk result (λ flat. flat ≡ spec.flat_import_of names.now import.now) }
+{
     let args = arg_kinds(alloc, names, import)?;
     if args.len() > limits::CALL_ARGUMENTS {
         return Err(FlatFault::NotElaborated);
@@ -118,7 +158,9 @@ fn flat_import(alloc: Global, names: &Names, import: &TreeImport) -> Result<Impo
 }
 
 /// The name under which an import is found: its own unless another one stands there.
-fn linkage_name(import: &TreeImport) -> Token {
+fn linkage_name(import: &TreeImport) -> Token
+    ensures { result ≡ spec.linkage_name import.now.linkage import.now.name }
+{
     match import.linkage {
         Some(linkage) => linkage.name,
         None => import.name,
@@ -126,10 +168,22 @@ fn linkage_name(import: &TreeImport) -> Token {
 }
 
 /// Whether an import is declared `pure`.
-fn is_pure(names: &Names, import: &TreeImport) -> bool {
+fn is_pure(names: &Names, import: &TreeImport) -> bool
+    ensures { result ≡ spec.is_pure names.now import.now.manner }
+{
     match import.manner {
-        Some(manner) => matches!(symbol(names, manner), Symbol::Pure),
+        Some(manner) => says_pure(symbol(names, manner)),
         None => false,
+    }
+}
+
+/// Whether a word is `pure`.
+fn says_pure(word: Symbol) -> bool
+    ensures { result ≡ spec.says_pure word }
+{
+    match word {
+        Symbol::Pure => true,
+        _ => false,
     }
 }
 
@@ -139,7 +193,8 @@ fn arg_kinds(
     names: &Names,
     import: &TreeImport,
 ) -> Result<Items<ValueType>, FlatFault>
-    ensures { IfOk result (λ kinds. list_all is_type kinds ≡ true) }
+    ensures kinds { IfOk result (λ kinds. kinds ≡ map (λ a. words.word_kind names.now a.kind) (spec.arguments import.now.args)) }
+    ensures types { IfOk result (λ kinds. list_all is_type kinds ≡ true) }
 {
     let mut kinds = Items::new(alloc);
     let Some(args) = &import.args else {

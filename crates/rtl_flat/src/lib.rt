@@ -48,6 +48,7 @@ mod connect;
 mod design;
 mod given;
 mod imports;
+mod ports;
 mod processes;
 mod text;
 mod variables;

@@ -3,9 +3,9 @@
 use crate::connect::{connection, named_value, port_value};
 use crate::given::{Given, Places};
 use crate::imports::number_of;
+use crate::ports::{is_input, ports_of};
 use crate::variables::{Extent, is_wire};
 use crate::walk::{Pass, Present};
-use elab_types::Direction;
 use rtl_ir::{Event, Expr, Mem, Place, Proc, ProcKind, Stmt, Var};
 use rtl_lower::{
     FlatFault, assigned_value, kind_of_import, of_declared, place_of, statement, target_kind,
@@ -20,6 +20,14 @@ use sv_tree::{
     Token,
 };
 use vs_base::{Origin, ValueType};
+
+/// A port among those of its module.
+#[derive(Clone, Copy)]
+struct PortPlace {
+    number: u32,
+    /// An input, and otherwise an output.
+    input: bool,
+}
 
 /// The pass over processes.
 #[derive(Drop)]
@@ -83,17 +91,6 @@ impl Pass for Lowering<'_> {
             } => self.clocked(present, *word, events, body),
             _ => Ok(()),
         }
-    }
-}
-
-/// The ports of a module, if it has any.
-fn ports_of(child: &Module) -> Option<&CommaList<Port>> {
-    match &child.ports {
-        Some(ports) => match &ports.list {
-            Some(list) => Some(list),
-            None => None,
-        },
-        None => None,
     }
 }
 
@@ -305,33 +302,39 @@ impl Lowering<'_> {
         list: &CommaList<Port>,
         connections: &Connections,
     ) -> Result<(), FlatFault> {
-        self.connect_port(present, list.first.name, 0, connections)?;
-        let mut number: u32 = 0;
+        let names = present.inside.names;
+        let mut place = PortPlace {
+            number: 0,
+            input: is_input(names, true, list.first.direction),
+        };
+        self.connect_port(present, list.first.name, place, connections)?;
         for joined in list.more.as_slice() {
-            number = number.saturating_add(1);
-            self.connect_port(present, joined.item.name, number, connections)?;
+            place = PortPlace {
+                number: place.number.saturating_add(1),
+                input: is_input(names, place.input, joined.item.direction),
+            };
+            self.connect_port(present, joined.item.name, place, connections)?;
         }
         Ok(())
     }
 
-    /// Connects the port of this number.
+    /// Connects the port of this place.
     fn connect_port(
         &mut self,
         present: &Present<'_>,
         name: Token,
-        number: u32,
+        place: PortPlace,
         connections: &Connections,
     ) -> Result<(), FlatFault> {
-        let extent = self.extent(present.entered)?;
-        let port = declared_var(self.vars, extent.first_var.saturating_add(number))?;
-        let Some(direction) = extent.ports.get(number as usize) else {
-            return Err(FlatFault::NotElaborated);
-        };
-        let given = self.places.given(connections, name.name, number as usize);
-        match *direction {
-            Direction::Input => self.connect_input(present, port, given),
-            Direction::Output => self.connect_output(present, port, given),
+        let first = self.extent(present.entered)?.first_var;
+        let port = declared_var(self.vars, first.saturating_add(place.number))?;
+        let given = self
+            .places
+            .given(connections, name.name, place.number as usize);
+        if place.input {
+            return self.connect_input(present, port, given);
         }
+        self.connect_output(present, port, given)
     }
 
     /// Connects an input: the port is assigned what is given.

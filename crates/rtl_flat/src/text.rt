@@ -1,6 +1,6 @@
 //! Texts of paths and names.
 
-ghost use Rattle.std.specs.Prelude.{◌≡◌, IfOk};
+ghost use Rattle.std.specs.Prelude.{◌≡◌, ◌++◌, ◌∷◌, IfOk};
 
 use rtl_lower::FlatFault;
 use std::alloc::Global;
@@ -15,7 +15,9 @@ pub fn copied(alloc: Global, text: &[u8]) -> Result<Text, FlatFault>
 }
 
 /// A path with a name after it.
-pub fn joined(alloc: Global, path: &[u8], name: &[u8]) -> Result<Text, FlatFault> {
+pub fn joined(alloc: Global, path: &[u8], name: &[u8]) -> Result<Text, FlatFault>
+    ensures { IfOk result (λ text. text ≡ path.now ++ 46 ∷ name.now) }
+{
     let mut bytes = Vec::from_slice(alloc, path)?;
     bytes.extend_from_slice(b".")?;
     bytes.extend_from_slice(name)?;

@@ -1,30 +1,49 @@
 //! The variables and memories of all scopes.
 
-ghost use Rattle.std.specs.Prelude.{◌≡◌, IfOk};
+ghost use Rattle.std.specs.Prelude.{◌≡◌, ◌≤ℤ◌, ◌+ℤ◌, ◌^◌, pos, IfOk, OnOk};
+ghost use Rattle.std.specs.List.{All};
+ghost use Rattle.rtl_flat.specs.Laid.{VarStands, MemStands};
 
 use crate::text::{copied, joined};
 use crate::walk::{Pass, Present, Walk};
 use elab_types::{
-    Bounds, Direction, Packed, PortType, assigned_value, bounds, no_port, packed_type, port_type,
+    Bounds, Packed, PortType, assigned_value, bounds, no_port, packed_type, port_type,
 };
 use rtl_ir::{Mem, Var};
 use rtl_lower::FlatFault;
 use sqlite_items::Items;
 use std::alloc::Global;
+use sv_elab::Scope;
 use sv_expr::{ScopeView, symbol, text_of};
 use sv_tree::{
     CommaList, Connections, DataType, Declaration, Dimension, Initial, Item, Module, Names, Port,
     Symbol, Token,
 };
-use vs_base::Bits;
+use vs_base::{Bits, Text};
 
-/// What a scope declares.
+/// A variable of a scope.
 #[derive(Drop)]
-struct Held {
-    vars: Vec<Var>,
-    mems: Vec<Mem>,
-    /// The directions of its ports, in order.
-    ports: Vec<Direction>,
+pub struct HeldVar {
+    name: Text,
+    packed: Packed,
+    init: Bits,
+    ghost init_width: { init.width ≡ packed.kind.width },
+}
+
+/// A memory of a scope.
+#[derive(Drop)]
+pub struct HeldMem {
+    name: Text,
+    packed: Packed,
+    addresses: Bounds,
+    ghost end: { (addresses.low +ℤ pos addresses.count) ≤ℤ pos (2 ^ 63) },
+}
+
+/// What a scope declares, the ports first.
+#[derive(Drop)]
+pub struct Held {
+    vars: Vec<HeldVar>,
+    mems: Vec<HeldMem>,
 }
 
 /// Where the variables and memories of a scope begin in the lists of the design.
@@ -32,8 +51,6 @@ struct Held {
 pub struct Extent {
     pub first_var: u32,
     pub first_mem: u32,
-    /// The directions of its ports, in order.
-    pub ports: Vec<Direction>,
 }
 
 /// The variables and memories of a design, scope by scope.
@@ -53,14 +70,14 @@ struct Declaring {
     held: Vec<Held>,
 }
 
-/// The variables and memories that a walk meets.
-pub fn variables_of(alloc: Global, walk: &mut Walk<'_>) -> Result<Variables, FlatFault> {
+/// What each scope declares that a walk meets.
+pub fn declarations_of(alloc: Global, walk: &mut Walk<'_>) -> Result<Vec<Held>, FlatFault> {
     let mut pass = Declaring {
         alloc,
         held: Vec::new(alloc),
     };
     walk.run(&mut pass)?;
-    laid_down(alloc, pass.held)
+    Ok(pass.held)
 }
 
 impl Pass for Declaring {
@@ -106,7 +123,6 @@ impl Declaring {
         let held = Held {
             vars: Vec::new(self.alloc),
             mems: Vec::new(self.alloc),
-            ports: Vec::new(self.alloc),
         };
         let Ok(()) = self.held.push(held) else {
             return Err(FlatFault::NoMemory);
@@ -134,7 +150,6 @@ impl Declaring {
             Ok(kind) => kind,
             Err(fault) => return Err(FlatFault::from(fault)),
         };
-        self.put_direction(present, kind.direction)?;
         self.put_var(present, port.name, kind.packed, &None)?;
         Ok(kind)
     }
@@ -173,22 +188,6 @@ impl Declaring {
         }
     }
 
-    /// Notes the direction of a port.
-    fn put_direction(
-        &mut self,
-        present: &Present<'_>,
-        direction: Direction,
-    ) -> Result<(), FlatFault> {
-        let open = present.here()?;
-        let Some(held) = self.held.get_mut(open.scope as usize) else {
-            return Err(FlatFault::NotElaborated);
-        };
-        let Ok(()) = held.ports.push(direction) else {
-            return Err(FlatFault::NoMemory);
-        };
-        Ok(())
-    }
-
     /// Adds a variable.
     fn put_var(
         &mut self,
@@ -198,7 +197,7 @@ impl Declaring {
         initial: &Option<Initial>,
     ) -> Result<(), FlatFault> {
         let open = present.here()?;
-        let var = new_var(self.alloc, present, name, packed, initial)?;
+        let var = held_var(self.alloc, present, name, packed, initial)?;
         let Some(held) = self.held.get_mut(open.scope as usize) else {
             return Err(FlatFault::NotElaborated);
         };
@@ -217,7 +216,7 @@ impl Declaring {
         dimension: &Dimension,
     ) -> Result<(), FlatFault> {
         let open = present.here()?;
-        let mem = new_mem(self.alloc, present, name, packed, dimension)?;
+        let mem = held_mem(self.alloc, present, name, packed, dimension)?;
         let Some(held) = self.held.get_mut(open.scope as usize) else {
             return Err(FlatFault::NotElaborated);
         };
@@ -229,26 +228,16 @@ impl Declaring {
 }
 
 /// A variable of the present scope.
-fn new_var(
+fn held_var(
     alloc: Global,
     present: &Present<'_>,
     name: Token,
     packed: Packed,
     initial: &Option<Initial>,
-) -> Result<Var, FlatFault> {
-    let scope = present.here()?.scope;
+) -> Result<HeldVar, FlatFault> {
     let init = initial_value(&present.inside.view(), packed, initial)?;
-    let path = copied(alloc, present.scope(scope)?.path.as_bytes())?;
     let name = copied(alloc, text_of(present.inside.names, name))?;
-    Ok(Var {
-        path,
-        name,
-        width: packed.kind.width,
-        lsb: packed.lsb,
-        signed: packed.kind.signed,
-        init,
-        scope,
-    })
+    Ok(HeldVar { name, packed, init })
 }
 
 /// The value before the first eval: 0 where none is given.
@@ -270,29 +259,23 @@ fn initial_value(
 }
 
 /// A memory of the present scope.
-fn new_mem(
+fn held_mem(
     alloc: Global,
     present: &Present<'_>,
     name: Token,
     packed: Packed,
     dimension: &Dimension,
-) -> Result<Mem, FlatFault> {
-    let scope = present.here()?.scope;
+) -> Result<HeldMem, FlatFault> {
     let addresses = addresses(&present.inside.view(), dimension)?;
-    let outer = present.scope(scope)?.path.as_bytes();
-    let path = joined(alloc, outer, text_of(present.inside.names, name))?;
     let end = i128::from(addresses.low) + i128::from(addresses.count);
     if end > 1 << 63 {
         return Err(FlatFault::NotElaborated);
     }
-    Ok(Mem {
-        path,
-        width: packed.kind.width,
-        lsb: packed.lsb,
-        signed: packed.kind.signed,
-        low: addresses.low,
-        count: addresses.count,
-        scope,
+    let name = copied(alloc, text_of(present.inside.names, name))?;
+    Ok(HeldMem {
+        name,
+        packed,
+        addresses,
     })
 }
 
@@ -314,34 +297,138 @@ pub fn is_wire(names: &Names, kind: &DataType) -> bool {
 }
 
 /// The lists of all scopes one after another.
-fn laid_down(alloc: Global, scopes: Vec<Held>) -> Result<Variables, FlatFault> {
-    let mut laid = Variables {
-        vars: Items::new(alloc),
-        mems: Items::new(alloc),
-        extents: Vec::new(alloc),
-    };
-    for held in scopes {
-        laid.add(held)?;
+pub fn laid_down(
+    alloc: Global,
+    scopes: &[Scope],
+    declared: Vec<Held>,
+) -> Result<Variables, FlatFault>
+    ensures vars { IfOk result (λ variables. All (VarStands scopes.now) variables.vars) }
+    ensures mems { IfOk result (λ variables. All (MemStands scopes.now) variables.mems) }
+{
+    let mut vars = Items::new(alloc);
+    let mut mems = Items::new(alloc);
+    let mut extents = Vec::new(alloc);
+    let mut scope: u32 = 0;
+    for held in declared {
+        let extent = extent(vars.len(), mems.len())?;
+        let Held {
+            vars: some_vars,
+            mems: some_mems,
+        } = held;
+        put_vars(alloc, scopes, scope, some_vars, &mut vars)?;
+        put_mems(alloc, scopes, scope, some_mems, &mut mems)?;
+        put_extent(extent, &mut extents)?;
+        scope = scope.saturating_add(1);
     }
-    Ok(laid)
+    Ok(Variables {
+        vars,
+        mems,
+        extents,
+    })
 }
 
-impl Variables {
-    /// Adds what a scope declares.
-    fn add(&mut self, held: Held) -> Result<(), FlatFault> {
-        let Held { vars, mems, ports } = held;
-        let extent = Extent {
-            first_var: number(self.vars.len())?,
-            first_mem: number(self.mems.len())?,
-            ports,
-        };
-        let Ok(()) = self.extents.push(extent) else {
-            return Err(FlatFault::NoMemory);
-        };
-        self.vars.append(Items::from_vec(vars))?;
-        self.mems.append(Items::from_vec(mems))?;
-        Ok(())
+/// The beginning of a scope before which there are so many variables and memories.
+fn extent(vars: usize, mems: usize) -> Result<Extent, FlatFault> {
+    Ok(Extent {
+        first_var: number(vars)?,
+        first_mem: number(mems)?,
+    })
+}
+
+/// Adds the beginning of a scope.
+fn put_extent(extent: Extent, extents: &mut Vec<Extent>) -> Result<(), FlatFault> {
+    match extents.push(extent) {
+        Ok(()) => Ok(()),
+        Err(_) => Err(FlatFault::NoMemory),
     }
+}
+
+/// Adds the variables of the scope of this number.
+fn put_vars(
+    alloc: Global,
+    scopes: &[Scope],
+    scope: u32,
+    some: Vec<HeldVar>,
+    vars: &mut Items<Var>,
+) -> Result<(), FlatFault>
+    requires { All (VarStands scopes.now) vars.old }
+    ensures { OnOk result (All (VarStands scopes.now) vars.new) }
+{
+    for held in some {
+        vars.push(new_var(alloc, scopes, scope, held)?)?;
+    }
+    Ok(())
+}
+
+/// A variable of the scope of this number.
+fn new_var(
+    alloc: Global,
+    scopes: &[Scope],
+    scope: u32,
+    held: HeldVar,
+) -> Result<Var, FlatFault>
+    ensures { IfOk result (λ var. VarStands scopes.now var) }
+{
+    let Some(outer) = scopes.get(scope as usize) else {
+        return Err(FlatFault::NotElaborated);
+    };
+    let path = copied(alloc, outer.path.as_bytes())?;
+    let HeldVar { name, packed, init } = held;
+    Ok(Var {
+        path,
+        name,
+        width: packed.kind.width,
+        lsb: packed.lsb,
+        signed: packed.kind.signed,
+        init,
+        scope,
+    })
+}
+
+/// Adds the memories of the scope of this number.
+fn put_mems(
+    alloc: Global,
+    scopes: &[Scope],
+    scope: u32,
+    some: Vec<HeldMem>,
+    mems: &mut Items<Mem>,
+) -> Result<(), FlatFault>
+    requires { All (MemStands scopes.now) mems.old }
+    ensures { OnOk result (All (MemStands scopes.now) mems.new) }
+{
+    for held in some {
+        mems.push(new_mem(alloc, scopes, scope, held)?)?;
+    }
+    Ok(())
+}
+
+/// A memory of the scope of this number.
+fn new_mem(
+    alloc: Global,
+    scopes: &[Scope],
+    scope: u32,
+    held: HeldMem,
+) -> Result<Mem, FlatFault>
+    ensures { IfOk result (λ mem. MemStands scopes.now mem) }
+{
+    let Some(outer) = scopes.get(scope as usize) else {
+        return Err(FlatFault::NotElaborated);
+    };
+    let HeldMem {
+        name,
+        packed,
+        addresses,
+    } = held;
+    let path = joined(alloc, outer.path.as_bytes(), name.as_bytes())?;
+    Ok(Mem {
+        path,
+        width: packed.kind.width,
+        lsb: packed.lsb,
+        signed: packed.kind.signed,
+        low: addresses.low,
+        count: addresses.count,
+        scope,
+    })
 }
 
 /// A place of a list as a number.

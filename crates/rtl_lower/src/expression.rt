@@ -1,5 +1,11 @@
 //! Expressions with the widths and signs that their contexts give them.
 
+ghost use Rattle.std.specs.Prelude.{◌≡◌, Some, IfOk, IfSome};
+ghost use Rattle.rtl_ir.specs.declared.expr.ExprNode.TheVariants as node;
+ghost use Rattle.rtl_lower.specs.Kinds.{type_of, type_in, thing_of, thing_denoted};
+ghost use Rattle.sv_expr.specs.Environment.{denotes, as_constant};
+ghost use Rattle.sv_sem.specs.Types.{in_context};
+
 use crate::fault::FlatFault;
 use crate::fixed::are_fixed;
 use crate::formal::formal_kind;
@@ -153,7 +159,9 @@ fn prefixed_kind(
 }
 
 /// An expression of a context.
-fn of_kind(kind: Kind, node: ExprNode) -> Expr {
+fn of_kind(kind: Kind, node: ExprNode) -> Expr
+    ensures { result ≡ record { width = kind.width; signed = kind.signed; node = node } }
+{
     Expr {
         width: kind.width,
         signed: kind.signed,
@@ -162,7 +170,9 @@ fn of_kind(kind: Kind, node: ExprNode) -> Expr {
 }
 
 /// A constant in a context.
-fn fixed_in(fixed: Fixed, kind: Kind) -> ExprNode {
+fn fixed_in(fixed: Fixed, kind: Kind) -> ExprNode
+    ensures { result ≡ node.Const (in_context fixed.value (type_of kind)) }
+{
     ExprNode::Const(in_kind(fixed.value, kind))
 }
 
@@ -174,7 +184,9 @@ fn is_conversion(name: Token, here: &Here<'_>) -> bool {
 
 /// An expression in a context.
 #[cycle(lower)]
-pub fn lower(expr: &Tree, here: &Here<'_>, kind: Kind) -> Result<Expr, FlatFault> {
+pub fn lower(expr: &Tree, here: &Here<'_>, kind: Kind) -> Result<Expr, FlatFault>
+    ensures { IfOk result (λ e. type_in e ≡ type_of kind) }
+{
     let node = match expr {
         Tree::Decimal(_) | Tree::Based(_) | Tree::Sized { .. } | Tree::Fill(_) => {
             ExprNode::Const(constant(expr, here, kind)?)
@@ -291,7 +303,9 @@ pub fn named(
     name: Token,
     here: &Here<'_>,
     kind: Kind,
-) -> Result<ExprNode, FlatFault> {
+) -> Result<ExprNode, FlatFault>
+    ensures { IfOk result (λ e. IfSome (as_constant (denotes here.now.view name.name.0)) (λ fixed. e ≡ node.Const (in_context fixed.value (type_of kind)))) }
+{
     match here.view.table.get(name.name) {
         Denoted::Constant(fixed) | Denoted::Turn(fixed) => Ok(fixed_in(fixed, kind)),
         _ => Ok(ExprNode::Read(target(selects, name, here)?)),
@@ -300,7 +314,9 @@ pub fn named(
 
 /// What a name with its selects reads or writes.
 #[cycle(lower)]
-pub fn target(selects: &[Select], name: Token, here: &Here<'_>) -> Result<Target, FlatFault> {
+pub fn target(selects: &[Select], name: Token, here: &Here<'_>) -> Result<Target, FlatFault>
+    ensures { IfOk result (λ t. thing_denoted (denotes here.now.view name.name.0) ≡ Some (thing_of t)) }
+{
     let fixed = are_fixed(selects, here);
     match (here.view.table.get(name.name), selects) {
         (Denoted::Variable(declared), []) => Ok(Target {

@@ -1,3 +1,7 @@
+ghost use Rattle.std.specs.Prelude.{◌≡◌};
+ghost use Rattle.rtl_lower.specs.Kinds.{environment_in};
+ghost use Rattle.sv_expr.specs.Environment.{environment};
+
 use crate::here::Here;
 use rtl_ir::Import;
 use scope_table::ScopeTable;
@@ -18,7 +22,10 @@ pub struct Inside<'t> {
 
 impl Inside<'_> {
     /// What names denote here.
-    pub fn view(&self) -> ScopeView<'_> {
+    #[tactic(auto, unfolding(crate::specs::Kinds::environment_of))]
+    pub fn view(&self) -> ScopeView<'_>
+        ensures { environment result ≡ environment_in self.now }
+    {
         ScopeView {
             names: self.names,
             table: &self.table,
@@ -26,7 +33,10 @@ impl Inside<'_> {
     }
 
     /// Where expressions stand.
-    pub fn here(&self) -> Here<'_> {
+    #[tactic(auto, unfolding(crate::specs::Kinds::environment_of))]
+    pub fn here(&self) -> Here<'_>
+        ensures { environment result.view ≡ environment_in self.now }
+    {
         Here {
             alloc: self.alloc,
             view: self.view(),

@@ -1,7 +1,12 @@
 //! The types of expressions, with widths that are within the limit.
 
-ghost use Rattle.std.specs.Prelude.{◌≡◌};
-ghost use Rattle.sv_expr.specs.Bound.{IsWidth};
+ghost use Rattle.std.specs.Prelude.{◌≡◌, max, Some, None, IfOk, OnOk, OnErr};
+ghost use Rattle.elab_types.specs.Word as words;
+ghost use Rattle.rtl_lower.specs.Kinds.{type_of, kind_denoted};
+ghost use Rattle.sv_expr.specs.Bound.{IsWidth, bit as one_bit};
+ghost use Rattle.sv_expr.specs.Environment.{denotes, environment};
+ghost use Rattle.sv_expr.specs.Meaning.{TypeOf, FirstFault, kind_or_bit};
+ghost use Rattle.sv_sem.specs.Types as types;
 
 use crate::fault::FlatFault;
 use crate::here::Here;
@@ -19,7 +24,9 @@ pub struct Kind {
 }
 
 /// One bit without a sign.
-pub fn bit() -> Kind {
+pub fn bit() -> Kind
+    ensures { type_of result ≡ one_bit }
+{
     Kind {
         width: Width::new(1),
         signed: false,
@@ -29,7 +36,7 @@ pub fn bit() -> Kind {
 /// A type whose width is within the limit.
 pub fn of_type(kind: ValueType) -> Kind
     requires { IsWidth kind.width }
-    ensures { result.width ≡ kind.width }
+    ensures { type_of result ≡ kind }
 {
     Kind {
         width: Width::new(kind.width),
@@ -40,7 +47,7 @@ pub fn of_type(kind: ValueType) -> Kind
 impl Kind {
     /// The same as a type.
     pub fn value_type(self) -> ValueType
-        ensures width { result.width ≡ self.width }
+        ensures kind { result ≡ type_of self }
         ensures fits { IsWidth result.width }
     {
         ValueType {
@@ -51,7 +58,10 @@ impl Kind {
 }
 
 /// The type of an expression, taken alone.
-pub fn kind_of(expr: &Expr, here: &Here<'_>) -> Result<Kind, FlatFault> {
+pub fn kind_of(expr: &Expr, here: &Here<'_>) -> Result<Kind, FlatFault>
+    ensures kind { IfOk result (λ kind. type_of kind ≡ TypeOf (environment here.now.view) expr.now) }
+    ensures fault { OnOk result (FirstFault (environment here.now.view) expr.now ≡ None) }
+{
     match expr_type(&here.view, expr) {
         Ok(kind) => Ok(of_type(kind)),
         Err(fault) => Err(FlatFault::from(fault)),
@@ -59,7 +69,10 @@ pub fn kind_of(expr: &Expr, here: &Here<'_>) -> Result<Kind, FlatFault> {
 }
 
 /// The type of a name without a select.
-pub fn kind_of_name(name: Token, here: &Here<'_>) -> Result<Kind, FlatFault> {
+pub fn kind_of_name(name: Token, here: &Here<'_>) -> Result<Kind, FlatFault>
+    ensures kind { IfOk result (λ kind. kind_denoted (denotes here.now.view name.name.0) ≡ Some (type_of kind)) }
+    ensures refused { OnErr result (kind_denoted (denotes here.now.view name.name.0) ≡ None) }
+{
     match here.view.table.get(name.name) {
         Denoted::Constant(fixed) | Denoted::Turn(fixed) => Ok(kind_of_fixed(fixed)),
         Denoted::Variable(declared) => Ok(of_declared(declared)),
@@ -70,19 +83,25 @@ pub fn kind_of_name(name: Token, here: &Here<'_>) -> Result<Kind, FlatFault> {
 }
 
 /// The type of a constant.
-fn kind_of_fixed(fixed: Fixed) -> Kind {
+fn kind_of_fixed(fixed: Fixed) -> Kind
+    ensures { type_of result ≡ fixed.kind }
+{
     let kind = fixed.kind;
     of_type(kind)
 }
 
 /// The type of a variable.
-pub fn of_declared(declared: Declared) -> Kind {
+pub fn of_declared(declared: Declared) -> Kind
+    ensures { type_of result ≡ declared.kind }
+{
     let kind = declared.kind;
     of_type(kind)
 }
 
 /// The type of an import's result, and one bit where it gives none.
-pub fn kind_of_import(names: &Names, import: &Import) -> Kind {
+pub fn kind_of_import(names: &Names, import: &Import) -> Kind
+    ensures { type_of result ≡ kind_or_bit (words.result_kind names.now import.now.result) }
+{
     match result_kind(names, import) {
         Some(kind) => of_type(kind),
         None => bit(),
@@ -90,12 +109,16 @@ pub fn kind_of_import(names: &Names, import: &Import) -> Kind {
 }
 
 /// The wider of two widths.
-pub fn wider_width(a: Width, b: Width) -> Width {
+pub fn wider_width(a: Width, b: Width) -> Width
+    ensures { result ≡ max a b }
+{
     if a.bits() < b.bits() { b } else { a }
 }
 
 /// The wider of two types, signed where both are (IEEE 1800-2017 11.6.1 and 11.8.1).
-pub fn wider(a: Kind, b: Kind) -> Kind {
+pub fn wider(a: Kind, b: Kind) -> Kind
+    ensures { type_of result ≡ types.wider (type_of a) (type_of b) }
+{
     Kind {
         width: wider_width(a.width, b.width),
         signed: a.signed && b.signed,
@@ -103,7 +126,9 @@ pub fn wider(a: Kind, b: Kind) -> Kind {
 }
 
 /// The context of a value of a type that is assigned to so many bits (IEEE 1800-2017 11.6.1 and 11.8.1).
-pub fn assigned(value: Kind, target: Width) -> Kind {
+pub fn assigned(value: Kind, target: Width) -> Kind
+    ensures { type_of result ≡ types.assigned_in (type_of value) target }
+{
     Kind {
         width: wider_width(value.width, target),
         signed: value.signed,
@@ -111,6 +136,8 @@ pub fn assigned(value: Kind, target: Width) -> Kind {
 }
 
 /// A constant's value in a context.
-pub fn in_kind(value: Bits, kind: Kind) -> Bits {
+pub fn in_kind(value: Bits, kind: Kind) -> Bits
+    ensures { result ≡ types.in_context value (type_of kind) }
+{
     value.extend(kind.width.bits(), kind.signed)
 }

@@ -1,6 +1,9 @@
 //! Numbers that constant expressions give.
 
-ghost use Rattle.std.specs.Prelude.{◌≡◌, IfOk};
+ghost use Rattle.std.specs.Prelude.{◌≡◌, ◌^◌, ◌≤ℤ◌, ◌<ℤ◌, neg_ℤ, pos, IfOk};
+ghost use Rattle.rtl_lower.specs.Kinds.{type_of};
+ghost use Rattle.sv_expr.specs.Environment.{environment};
+ghost use Rattle.sv_expr.specs.Meaning.{ValueOf, OwnReadingOf, part_width as part_bits};
 
 use crate::fault::FlatFault;
 use crate::here::Here;
@@ -11,7 +14,9 @@ use sv_tree::{Expr, Symbol};
 use vs_base::{Bits, limits};
 
 /// The value of a constant expression in a context.
-pub fn constant(expr: &Expr, here: &Here<'_>, kind: Kind) -> Result<Bits, FlatFault> {
+pub fn constant(expr: &Expr, here: &Here<'_>, kind: Kind) -> Result<Bits, FlatFault>
+    ensures { IfOk result (λ value. value ≡ ValueOf (environment here.now.view) expr.now (type_of kind)) }
+{
     match const_value(&here.view, expr, kind.value_type()) {
         Ok(value) => Ok(value),
         Err(fault) => Err(FlatFault::from(fault)),
@@ -19,7 +24,11 @@ pub fn constant(expr: &Expr, here: &Here<'_>, kind: Kind) -> Result<Bits, FlatFa
 }
 
 /// The value of a constant expression, read with its own sign.
-fn number(expr: &Expr, here: &Here<'_>) -> Result<i128, FlatFault> {
+fn number(expr: &Expr, here: &Here<'_>) -> Result<i128, FlatFault>
+    ensures value { IfOk result (λ value. value ≡ OwnReadingOf (environment here.now.view) expr.now) }
+    ensures low { IfOk result (λ value. neg_ℤ (pos (2 ^ 64)) ≤ℤ value) }
+    ensures high { IfOk result (λ value. value <ℤ pos (2 ^ 64)) }
+{
     match own_value(&here.view, expr) {
         Ok(value) => Ok(value),
         Err(fault) => Err(FlatFault::from(fault)),
@@ -27,7 +36,9 @@ fn number(expr: &Expr, here: &Here<'_>) -> Result<i128, FlatFault> {
 }
 
 /// How many times a replication stands.
-pub fn count_of(expr: &Expr, here: &Here<'_>) -> Result<u32, FlatFault> {
+pub fn count_of(expr: &Expr, here: &Here<'_>) -> Result<u32, FlatFault>
+    ensures { IfOk result (λ count. pos count ≡ OwnReadingOf (environment here.now.view) expr.now) }
+{
     let count = number(expr, here)?;
     match u32::try_from(count) {
         Ok(count) => Ok(count),
@@ -41,17 +52,21 @@ pub fn part_width(
     from: &Expr,
     to: &Expr,
     here: &Here<'_>,
-) -> Result<Width, FlatFault> {
+) -> Result<Width, FlatFault>
+    ensures { IfOk result (λ width. pos width ≡ part_bits mark (OwnReadingOf (environment here.now.view) from.now) (OwnReadingOf (environment here.now.view) to.now)) }
+{
     let to = number(to, here)?;
     if !matches!(mark, Symbol::Colon) {
         return width_of(to);
     }
     let from = number(from, here)?;
-    width_of(from.saturating_sub(to).saturating_add(1))
+    width_of(from - to + 1)
 }
 
 /// So many bits.
-pub fn width_of(bits: i128) -> Result<Width, FlatFault> {
+pub fn width_of(bits: i128) -> Result<Width, FlatFault>
+    ensures { IfOk result (λ width. pos width ≡ bits) }
+{
     if bits < 1 || bits > i128::from(limits::WIDTH) {
         return Err(FlatFault::NotElaborated);
     }

@@ -1,5 +1,12 @@
 //! What assignments write (IEEE 1800-2017 10.3 and 11.4.12).
 
+ghost use Rattle.std.specs.Prelude.{◌≡◌, ◌∷◌, [], IfOk};
+ghost use Rattle.rtl_lower.specs.Kinds.{type_of, type_in, variable_of};
+ghost use Rattle.sv_expr.specs.Environment.{environment};
+ghost use Rattle.sv_expr.specs.Meaning.{TypeOf};
+ghost use Rattle.sv_expr.specs.Target.{TypeOfTarget};
+ghost use Rattle.sv_sem.specs.Types.{assigned_in};
+
 use crate::expression::{lower, target};
 use crate::fault::FlatFault;
 use crate::here::Here;
@@ -10,13 +17,17 @@ use sv_expr::lvalue_type;
 use sv_tree::{Expr as Tree, Lvalue, LvalueStep, Step};
 
 /// The value of an expression that is assigned to so many bits.
-pub fn assigned_value(value: &Tree, here: &Here<'_>, width: Width) -> Result<Expr, FlatFault> {
+pub fn assigned_value(value: &Tree, here: &Here<'_>, width: Width) -> Result<Expr, FlatFault>
+    ensures { IfOk result (λ e. type_in e ≡ assigned_in (TypeOf (environment here.now.view) value.now) width) }
+{
     let own = kind_of(value, here)?;
     lower(value, here, assigned(own, width))
 }
 
 /// How many bits the left side of an assignment has.
-pub fn target_kind(target: &Lvalue, here: &Here<'_>) -> Result<Kind, FlatFault> {
+pub fn target_kind(target: &Lvalue, here: &Here<'_>) -> Result<Kind, FlatFault>
+    ensures { IfOk result (λ kind. type_of kind ≡ TypeOfTarget (environment here.now.view) target.now) }
+{
     match lvalue_type(&here.view, target) {
         Ok(kind) => Ok(of_type(kind)),
         Err(fault) => Err(FlatFault::from(fault)),
@@ -95,14 +106,18 @@ fn add_connected_steps(
 }
 
 /// The place that is one whole variable.
-pub fn whole_variable(var: u32, here: &Here<'_>) -> Result<Place, FlatFault> {
+pub fn whole_variable(var: u32, here: &Here<'_>) -> Result<Place, FlatFault>
+    ensures { IfOk result (λ place. place.parts ≡ variable_of var ∷ []) }
+{
     let mut parts = Items::new(here.alloc);
     parts.push(variable(var))?;
     Ok(Place { parts })
 }
 
 /// A whole variable.
-pub fn variable(var: u32) -> Target {
+pub fn variable(var: u32) -> Target
+    ensures { result ≡ variable_of var }
+{
     Target {
         mem: false,
         item: var,
