@@ -1,5 +1,5 @@
 -- The imports of a source, those among the items of modules too, as the functions that a design calls (IEEE 1800-2017 35.5.4).
-use Rattle.std.specs.Prelude.{ℕ, Bool, true, false, List, [], ◌∷◌, ◌++◌, map, get_or, Option, Some, None}
+use Rattle.std.specs.Prelude.{◌≡◌, ℕ, Bool, true, false, List, [], ◌∷◌, ◌++◌, map, get_or, Option, Some, None}
 use Rattle.std.specs.List.{flat_map}
 use Rattle.sv_tree.specs.declared.symbol.Symbol.{Symbol}
 use Rattle.sv_tree.specs.declared.symbol.Symbol.TheVariants as sym
@@ -18,6 +18,8 @@ use Rattle.sv_tree.specs.declared.tree.source.Description.TheVariants as descrip
 use Rattle.sv_tree.specs.declared.tree.source.SourceTree.{SourceTree}
 use Rattle.sv_tree.specs.Spelling.{symbol_of}
 use Rattle.elab_types.specs.Word.{word_kind, result_kind}
+use Rattle.vs_base.specs.declared.origin.Origin.{Origin}
+use Rattle.vs_base.specs.declared.types.ValueType.{ValueType}
 use Rattle.rtl_ir.specs.declared.design.Import.{Import as FlatImport}
 
 -- ---- where they stand, in token order
@@ -74,19 +76,34 @@ abbrev pub is_pure : List (List ℕ) → Option Token → Bool
 is_pure texts None = false
 is_pure texts (Some manner) = says_pure (symbol_of texts manner)
 
-abbrev pub arguments : Option (CommaList Argument) → List Argument
-arguments None = []
-arguments (Some list) = list.first ∷ map (λ j. j.item) list.more
+-- the types of its arguments
+abbrev pub listed_kinds : List (List ℕ) → CommaList Argument → List ValueType
+listed_kinds texts list = word_kind texts list.first.kind ∷ map (λ j. word_kind texts j.item.kind) list.more
 
-abbrev pub flat_import_of : List (List ℕ) → Import → FlatImport
-flat_import_of texts x = record {
+abbrev pub arg_kinds : List (List ℕ) → Option (CommaList Argument) → List ValueType
+arg_kinds texts None = []
+arg_kinds texts (Some list) = listed_kinds texts list
+
+-- what a design tells of an import
+pub record Told : Type 0 where
+  pub name : List ℕ
+  pub declared_pure : Bool
+  pub args : List ValueType
+  pub result : Option ValueType
+  pub at : Origin
+
+abbrev pub told : FlatImport → Told
+told x = record { name = x.name; declared_pure = x.declared_pure; args = x.args; result = x.result; at = x.at }
+
+abbrev pub told_of : List (List ℕ) → Import → Told
+told_of texts x = record {
   name = get_or texts (linkage_name x.linkage x.name).name.0 [];
   declared_pure = is_pure texts x.manner;
-  args = map (λ a. word_kind texts a.kind) (arguments x.args);
+  args = arg_kinds texts x.args;
   result = result_kind texts x.result;
   at = x.name.at;
 }
 
--- the imports of the design of a source
-abbrev pub flat_imports_of : List (List ℕ) → SourceTree → List FlatImport
-flat_imports_of texts tree = map (flat_import_of texts) (imports_of tree)
+-- these are the imports of a source, in order
+abbrev pub AreImports : List (List ℕ) → SourceTree → List FlatImport → Type 0
+AreImports texts tree all = map told all ≡ map (told_of texts) (imports_of tree)

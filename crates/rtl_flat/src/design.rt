@@ -28,7 +28,7 @@ pub fn flatten(
     scopes: &Scopes,
 ) -> Result<Design, NoMemory>
     ensures scopes { IfOk result (λ d. d.scopes ≡ map flat_scope_of scopes.now.scopes.items) }
-    ensures imports { IfOk result (λ d. d.imports ≡ imports.flat_imports_of names.now tree.now) }
+    ensures imports { IfOk result (λ d. imports.AreImports names.now tree.now d.imports) }
     ensures ports { IfOk result (λ d. ports.top_ports names.now tree.now.descriptions scopes.now.scopes.items ≡ Some d.ports) }
     ensures vars { IfOk result (λ d. All (VarStands scopes.now.scopes.items) d.vars) }
     ensures mems { IfOk result (λ d. All (MemStands scopes.now.scopes.items) d.mems) }
@@ -47,7 +47,7 @@ fn flattened(
     scopes: &[Scope],
 ) -> Result<Design, FlatFault>
     ensures scopes { IfOk result (λ d. d.scopes ≡ map flat_scope_of scopes.now) }
-    ensures imports { IfOk result (λ d. d.imports ≡ imports.flat_imports_of names.now tree.now) }
+    ensures imports { IfOk result (λ d. imports.AreImports names.now tree.now d.imports) }
     ensures ports { IfOk result (λ d. ports.top_ports names.now tree.now.descriptions scopes.now ≡ Some d.ports) }
     ensures vars { IfOk result (λ d. All (VarStands scopes.now) d.vars) }
     ensures mems { IfOk result (λ d. All (MemStands scopes.now) d.mems) }

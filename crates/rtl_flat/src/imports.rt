@@ -2,7 +2,6 @@
 
 ghost use Rattle.std.specs.Prelude.{◌≡◌, ◌++◌, ◌∷◌, [], true, map, IfOk, OnOk};
 ghost use Rattle.std.specs.List.{flat_map, list_all};
-ghost use Rattle.elab_types.specs.Word as words;
 ghost use Rattle.rtl_flat.specs.Imports as spec;
 ghost use Rattle.rtl_ir.specs.Types.{is_type};
 
@@ -13,7 +12,7 @@ use sqlite_items::Items;
 use std::alloc::Global;
 use sv_expr::{symbol, text_of};
 use sv_tree::{
-    Argument, Description, GenBlock, Import as TreeImport, Item, ItemBranch, NameId, Names,
+    Argument, CommaList, Description, GenBlock, Import as TreeImport, Item, ItemBranch, NameId, Names,
     SourceTree, Symbol, Token, WordType,
 };
 use vs_base::{Origin, Text, ValueType, limits};
@@ -130,7 +129,7 @@ pub fn flat_imports(
     names: &Names,
     list: &[&TreeImport],
 ) -> Result<Items<Import>, FlatFault>
-    ensures { IfOk result (λ all. all ≡ map (λ x. spec.flat_import_of names.now x.now) list.now) }
+    ensures { IfOk result (λ all. map spec.told all ≡ map (λ x. spec.told_of names.now x.now) list.now) }
 {
     let mut all = Items::new(alloc);
     for import in list {
@@ -141,7 +140,7 @@ pub fn flat_imports(
 
 /// An import of a design.
 fn flat_import(alloc: Global, names: &Names, import: &TreeImport) -> Result<Import, FlatFault>
-    ensures { IfOk result (λ flat. flat ≡ spec.flat_import_of names.now import.now) }
+    ensures { IfOk result (λ flat. spec.told flat ≡ spec.told_of names.now import.now) }
 {
     let args = arg_kinds(alloc, names, import)?;
     if args.len() > limits::CALL_ARGUMENTS {
@@ -193,13 +192,25 @@ fn arg_kinds(
     names: &Names,
     import: &TreeImport,
 ) -> Result<Items<ValueType>, FlatFault>
-    ensures kinds { IfOk result (λ kinds. kinds ≡ map (λ a. words.word_kind names.now a.kind) (spec.arguments import.now.args)) }
+    ensures kinds { IfOk result (λ kinds. kinds ≡ spec.arg_kinds names.now import.now.args) }
+    ensures types { IfOk result (λ kinds. list_all is_type kinds ≡ true) }
+{
+    match &import.args {
+        Some(args) => listed_kinds(alloc, names, args),
+        None => Ok(Items::new(alloc)),
+    }
+}
+
+/// The types of the arguments of a list.
+fn listed_kinds(
+    alloc: Global,
+    names: &Names,
+    args: &CommaList<Argument>,
+) -> Result<Items<ValueType>, FlatFault>
+    ensures kinds { IfOk result (λ kinds. kinds ≡ spec.listed_kinds names.now args.now) }
     ensures types { IfOk result (λ kinds. list_all is_type kinds ≡ true) }
 {
     let mut kinds = Items::new(alloc);
-    let Some(args) = &import.args else {
-        return Ok(kinds);
-    };
     kinds.push(word_kind(names, args.first.kind))?;
     for joined in args.more.as_slice() {
         kinds.push(word_kind(names, joined.item.kind))?;

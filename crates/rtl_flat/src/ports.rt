@@ -12,7 +12,7 @@ use sv_tree::{CommaList, Description, Module, NameId, Names, Port as TreePort, S
 
 /// The first module of a name.
 pub fn module_named(descriptions: &[Description], name: NameId) -> Option<&Module>
-    ensures { MatchOption result (spec.module_named name.0 descriptions.now ≡ None) (λ module. spec.module_named name.0 descriptions.now ≡ Some module.now) }
+    ensures { MatchOption result (spec.module_named name.0 descriptions.now ≡ None) (λ m. spec.module_named name.0 descriptions.now ≡ Some m.now) }
 {
     let mut rest = descriptions;
     while let [description, more @ ..] = rest {
@@ -27,10 +27,10 @@ pub fn module_named(descriptions: &[Description], name: NameId) -> Option<&Modul
 }
 
 /// The list of ports of a module, if it has one.
-pub fn ports_of(module: &Module) -> Option<&CommaList<TreePort>>
-    ensures { MatchOption result (spec.list_of module.now.ports ≡ None) (λ list. spec.list_of module.now.ports ≡ Some list.now) }
+pub fn ports_of(child: &Module) -> Option<&CommaList<TreePort>>
+    ensures { MatchOption result (spec.list_of child.now.ports ≡ None) (λ list. spec.list_of child.now.ports ≡ Some list.now) }
 {
-    match &module.ports {
+    match &child.ports {
         Some(ports) => match &ports.list {
             Some(list) => Some(list),
             None => None,

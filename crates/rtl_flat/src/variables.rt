@@ -310,7 +310,7 @@ pub fn laid_down(
     let mut extents = Vec::new(alloc);
     let mut scope: u32 = 0;
     for held in declared {
-        let extent = extent(vars.len(), mems.len())?;
+        let extent = extent_after(vars.len(), mems.len())?;
         let Held {
             vars: some_vars,
             mems: some_mems,
@@ -328,7 +328,7 @@ pub fn laid_down(
 }
 
 /// The beginning of a scope before which there are so many variables and memories.
-fn extent(vars: usize, mems: usize) -> Result<Extent, FlatFault> {
+fn extent_after(vars: usize, mems: usize) -> Result<Extent, FlatFault> {
     Ok(Extent {
         first_var: number(vars)?,
         first_mem: number(mems)?,

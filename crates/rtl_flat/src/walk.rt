@@ -33,8 +33,8 @@ enum End {
     Nothing,
     /// The scope ends.
     Leave,
-    /// The scope ends, and the loop that it is a turn of has this next value.
-    Turn(Fixed),
+    /// The scope ends, and the loop that it is a turn of has its next turn, if its condition holds.
+    Turn,
 }
 
 /// Items that are being walked.
@@ -98,6 +98,8 @@ pub struct Walk<'t> {
     modules: Modules,
     /// The items that are being walked, those of the innermost construct at the end.
     levels: Vec<Level<'t>>,
+    /// The next values of the loops that are being walked, that of the innermost loop at the end.
+    turns: Vec<Fixed>,
 }
 
 impl<'t> Walk<'t> {
@@ -126,6 +128,7 @@ impl<'t> Walk<'t> {
             tree,
             modules,
             levels: Vec::new(alloc),
+            turns: Vec::new(alloc),
         })
     }
 
@@ -203,7 +206,10 @@ impl<'t> Walk<'t> {
     ) -> Result<(), FlatFault> {
         match enter_block(head, &mut self.present.inside, &value)? {
             None => Ok(()),
-            Some(next) => self.block(pass, body, 1, End::Turn(next)),
+            Some(next) => {
+                add_turn(&mut self.turns, next)?;
+                self.block(pass, body, 1, End::Turn)
+            }
         }
     }
 
@@ -258,15 +264,18 @@ impl<'t> Walk<'t> {
                 self.present.leave();
                 Ok(())
             }
-            End::Turn(value) => {
+            End::Turn => {
                 self.present.leave();
-                self.next_turn(pass, value)
+                self.next_turn(pass)
             }
         }
     }
 
     /// The next turn of the loop that was met last in the present level.
-    fn next_turn<P: Pass>(&mut self, pass: &mut P, value: Fixed) -> Result<(), FlatFault> {
+    fn next_turn<P: Pass>(&mut self, pass: &mut P) -> Result<(), FlatFault> {
+        let Some(value) = self.turns.pop() else {
+            return Err(FlatFault::NotElaborated);
+        };
         let Some(level) = self.levels.last() else {
             return Err(FlatFault::NotElaborated);
         };
@@ -387,6 +396,14 @@ impl<'t> Present<'t> {
 /// Adds items that are to be walked before those that are there.
 fn add<'t>(levels: &mut Vec<Level<'t>>, level: &Level<'t>) -> Result<(), FlatFault> {
     match levels.push(*level) {
+        Ok(()) => Ok(()),
+        Err(_) => Err(FlatFault::NoMemory),
+    }
+}
+
+/// Adds the next value of a loop.
+fn add_turn(turns: &mut Vec<Fixed>, next: Fixed) -> Result<(), FlatFault> {
+    match turns.push(next) {
         Ok(()) => Ok(()),
         Err(_) => Err(FlatFault::NoMemory),
     }

@@ -1,5 +1,7 @@
 //! Statements, their loops unrolled (IEEE 1800-2017 10.4, 12.4, 12.5 and 12.7.1).
 
+ghost use Rattle.std.specs.Prelude.{◌≡◌, OnOk};
+
 use crate::expression::{call, lower};
 use crate::fault::FlatFault;
 use crate::here::Here;
@@ -22,7 +24,9 @@ pub fn statement(
     stmt: &TreeStmt,
     inside: &mut Inside<'_>,
     out: &mut Items<Stmt>,
-) -> Result<(), FlatFault> {
+) -> Result<(), FlatFault>
+    ensures { OnOk result (inside.new.table ≡ inside.old.table) }
+{
     match stmt {
         TreeStmt::Empty(_) => Ok(()),
         TreeStmt::Block { body, .. } => {
@@ -77,7 +81,9 @@ pub fn statement(
 
 /// A statement by itself.
 #[cycle(stmt)]
-fn body_of(stmt: &TreeStmt, inside: &mut Inside<'_>) -> Result<Items<Stmt>, FlatFault> {
+fn body_of(stmt: &TreeStmt, inside: &mut Inside<'_>) -> Result<Items<Stmt>, FlatFault>
+    ensures { OnOk result (inside.new.table ≡ inside.old.table) }
+{
     let mut body = Items::new(inside.alloc);
     statement(stmt, inside, &mut body)?;
     Ok(body)
@@ -85,7 +91,9 @@ fn body_of(stmt: &TreeStmt, inside: &mut Inside<'_>) -> Result<Items<Stmt>, Flat
 
 /// The tests of a chain that an `else` follows, each with its statement.
 #[cycle(stmt)]
-fn chain(branches: &[TreeBranch], inside: &mut Inside<'_>) -> Result<Items<Branch>, FlatFault> {
+fn chain(branches: &[TreeBranch], inside: &mut Inside<'_>) -> Result<Items<Branch>, FlatFault>
+    ensures { OnOk result (inside.new.table ≡ inside.old.table) }
+{
     let mut all = Items::new(inside.alloc);
     for branch in branches {
         let test = alone(&branch.test.test, &inside.here())?;
@@ -101,7 +109,9 @@ fn arms_of(
     arms: &[TreeArm],
     inside: &mut Inside<'_>,
     kind: &Kind,
-) -> Result<Items<Arm>, FlatFault> {
+) -> Result<Items<Arm>, FlatFault>
+    ensures { OnOk result (inside.new.table ≡ inside.old.table) }
+{
     let mut all = Items::new(inside.alloc);
     for arm in arms {
         if let TreeArm::Labels {
@@ -121,7 +131,9 @@ fn arms_of(
 
 /// The statement of the `default` of a `case`, if it has one.
 #[cycle(stmt)]
-fn default_of(arms: &[TreeArm], inside: &mut Inside<'_>) -> Result<Items<Stmt>, FlatFault> {
+fn default_of(arms: &[TreeArm], inside: &mut Inside<'_>) -> Result<Items<Stmt>, FlatFault>
+    ensures { OnOk result (inside.new.table ≡ inside.old.table) }
+{
     let mut rest = Items::new(inside.alloc);
     for arm in arms {
         if let TreeArm::Default { body, .. } = arm {
@@ -138,7 +150,9 @@ fn turns(
     head: &LoopHead,
     inside: &mut Inside<'_>,
     out: &mut Items<Stmt>,
-) -> Result<(), FlatFault> {
+) -> Result<(), FlatFault>
+    ensures { OnOk result (inside.new.table ≡ inside.old.table) }
+{
     let mut value = first_value(head, inside)?;
     for _ in 0..=limits::LOOP_TURNS {
         let Some(next) = enter_turn(head, inside, &value)? else {
