@@ -1,5 +1,6 @@
 -- What of a flat design is as elaboration laid it down (IEEE 1800-2017 23.6, 27.6).
-use Rattle.std.specs.Prelude.{◌≡◌, ℕ, List, ◌∷◌, ◌++◌, Option, Some, slice_get}
+use Rattle.std.specs.Prelude.{◌≡◌, ℕ, ◌≤◌, List, ◌∷◌, ◌++◌, Option, Some, slice_get}
+use Rattle.std.specs.List.{All, AllPairs}
 use Rattle.std.specs.Option.{option_map}
 use Rattle.sv_elab.specs.declared.scope.Scope.{Scope}
 use Rattle.rtl_ir.specs.declared.design.FlatScope.{FlatScope}
@@ -24,3 +25,26 @@ pub record MemStands (scopes : List Scope) (m : Mem) : Type 0 where
   pub name : List ℕ
   pub path : path_at scopes m.scope ≡ Some outer
   pub is_below : m.path ≡ outer ++ 46 ∷ name
+
+-- the number of the scope in which each stands
+abbrev pub var_scope : Var → ℕ
+var_scope v = v.scope
+
+abbrev pub mem_scope : Mem → ℕ
+mem_scope m = m.scope
+
+-- they stand scope by scope: none before one of an earlier scope
+abbrev pub ScopeByScope : {X : Type 0} → (X → ℕ) → List X → Type 0
+ScopeByScope scope_of xs = AllPairs (λ a b. scope_of a ≤ scope_of b) xs
+
+-- those of the scopes up to one, laid down scope by scope
+pub record UpTo {X : Type 0} (scope_of : X → ℕ) (Stands : X → Type 0) (scope : ℕ) (xs : List X) : Type 0 where
+  pub stand : All Stands xs
+  pub order : ScopeByScope scope_of xs
+  pub most : All (λ x. scope_of x ≤ scope) xs
+
+abbrev pub VarsUpTo : List Scope → ℕ → List Var → Type 0
+VarsUpTo scopes scope vars = UpTo var_scope (VarStands scopes) scope vars
+
+abbrev pub MemsUpTo : List Scope → ℕ → List Mem → Type 0
+MemsUpTo scopes scope mems = UpTo mem_scope (MemStands scopes) scope mems

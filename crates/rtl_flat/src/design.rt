@@ -1,7 +1,7 @@
 ghost use Rattle.std.specs.Prelude.{◌≡◌, Some, map, IfOk};
 ghost use Rattle.std.specs.List.{All};
 ghost use Rattle.rtl_flat.specs.Imports as imports;
-ghost use Rattle.rtl_flat.specs.Laid.{VarStands, MemStands, flat_scope_of};
+ghost use Rattle.rtl_flat.specs.Laid.{VarStands, MemStands, ScopeByScope, flat_scope_of, var_scope, mem_scope};
 ghost use Rattle.rtl_flat.specs.Ports as ports;
 
 use crate::given::Places;
@@ -32,6 +32,8 @@ pub fn flatten(
     ensures ports { IfOk result (λ d. ports.top_ports names.now tree.now.descriptions scopes.now.scopes.items ≡ Some d.ports) }
     ensures vars { IfOk result (λ d. All (VarStands scopes.now.scopes.items) d.vars) }
     ensures mems { IfOk result (λ d. All (MemStands scopes.now.scopes.items) d.mems) }
+    ensures vars_order { IfOk result (λ d. ScopeByScope var_scope d.vars) }
+    ensures mems_order { IfOk result (λ d. ScopeByScope mem_scope d.mems) }
 {
     match flattened(alloc, tree, names, scopes.scopes.as_slice()) {
         Ok(design) => Ok(design),
@@ -51,6 +53,8 @@ fn flattened(
     ensures ports { IfOk result (λ d. ports.top_ports names.now tree.now.descriptions scopes.now ≡ Some d.ports) }
     ensures vars { IfOk result (λ d. All (VarStands scopes.now) d.vars) }
     ensures mems { IfOk result (λ d. All (MemStands scopes.now) d.mems) }
+    ensures vars_order { IfOk result (λ d. ScopeByScope var_scope d.vars) }
+    ensures mems_order { IfOk result (λ d. ScopeByScope mem_scope d.mems) }
 {
     let texts = imports_in(alloc, tree)?;
     let imports = flat_imports(alloc, names, texts.as_slice())?;
@@ -78,6 +82,8 @@ fn parts_of(
     ensures ports { IfOk result (λ parts. ports.top_ports names.now tree.now.descriptions scopes.now ≡ Some parts.ports) }
     ensures vars { IfOk result (λ parts. All (VarStands scopes.now) parts.variables.vars) }
     ensures mems { IfOk result (λ parts. All (MemStands scopes.now) parts.variables.mems) }
+    ensures vars_order { IfOk result (λ parts. ScopeByScope var_scope parts.variables.vars) }
+    ensures mems_order { IfOk result (λ parts. ScopeByScope mem_scope parts.variables.mems) }
 {
     let variables = declared(alloc, tree, names, scopes)?;
     let procs = processes(alloc, tree, names, scopes, &variables, imports, texts)?;
@@ -98,6 +104,8 @@ fn declared(
 ) -> Result<Variables, FlatFault>
     ensures vars { IfOk result (λ variables. All (VarStands scopes.now) variables.vars) }
     ensures mems { IfOk result (λ variables. All (MemStands scopes.now) variables.mems) }
+    ensures vars_order { IfOk result (λ variables. ScopeByScope var_scope variables.vars) }
+    ensures mems_order { IfOk result (λ variables. ScopeByScope mem_scope variables.mems) }
 {
     let mut walk = Walk::new(alloc, tree, names, scopes, &[])?;
     let held = declarations_of(alloc, &mut walk)?;

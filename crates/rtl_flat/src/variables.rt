@@ -2,7 +2,7 @@
 
 ghost use Rattle.std.specs.Prelude.{◌≡◌, ◌≤ℤ◌, ◌+ℤ◌, ◌^◌, pos, IfOk, OnOk};
 ghost use Rattle.std.specs.List.{All};
-ghost use Rattle.rtl_flat.specs.Laid.{VarStands, MemStands};
+ghost use Rattle.rtl_flat.specs.Laid.{VarStands, MemStands, VarsUpTo, MemsUpTo, ScopeByScope, var_scope, mem_scope};
 
 use crate::text::{copied, joined};
 use crate::walk::{Pass, Present, Walk};
@@ -304,6 +304,8 @@ pub fn laid_down(
 ) -> Result<Variables, FlatFault>
     ensures vars { IfOk result (λ variables. All (VarStands scopes.now) variables.vars) }
     ensures mems { IfOk result (λ variables. All (MemStands scopes.now) variables.mems) }
+    ensures vars_order { IfOk result (λ variables. ScopeByScope var_scope variables.vars) }
+    ensures mems_order { IfOk result (λ variables. ScopeByScope mem_scope variables.mems) }
 {
     let mut vars = Items::new(alloc);
     let mut mems = Items::new(alloc);
@@ -351,8 +353,8 @@ fn put_vars(
     some: Vec<HeldVar>,
     vars: &mut Items<Var>,
 ) -> Result<(), FlatFault>
-    requires { All (VarStands scopes.now) vars.old }
-    ensures { OnOk result (All (VarStands scopes.now) vars.new) }
+    requires { VarsUpTo scopes.now scope vars.old }
+    ensures { OnOk result (VarsUpTo scopes.now scope vars.new) }
 {
     for held in some {
         vars.push(new_var(alloc, scopes, scope, held)?)?;
@@ -367,7 +369,8 @@ fn new_var(
     scope: u32,
     held: HeldVar,
 ) -> Result<Var, FlatFault>
-    ensures { IfOk result (λ var. VarStands scopes.now var) }
+    ensures stands { IfOk result (λ var. VarStands scopes.now var) }
+    ensures scope { IfOk result (λ var. var_scope var ≡ scope) }
 {
     let Some(outer) = scopes.get(scope as usize) else {
         return Err(FlatFault::NotElaborated);
@@ -393,8 +396,8 @@ fn put_mems(
     some: Vec<HeldMem>,
     mems: &mut Items<Mem>,
 ) -> Result<(), FlatFault>
-    requires { All (MemStands scopes.now) mems.old }
-    ensures { OnOk result (All (MemStands scopes.now) mems.new) }
+    requires { MemsUpTo scopes.now scope mems.old }
+    ensures { OnOk result (MemsUpTo scopes.now scope mems.new) }
 {
     for held in some {
         mems.push(new_mem(alloc, scopes, scope, held)?)?;
@@ -409,7 +412,8 @@ fn new_mem(
     scope: u32,
     held: HeldMem,
 ) -> Result<Mem, FlatFault>
-    ensures { IfOk result (λ mem. MemStands scopes.now mem) }
+    ensures stands { IfOk result (λ mem. MemStands scopes.now mem) }
+    ensures scope { IfOk result (λ mem. mem_scope mem ≡ scope) }
 {
     let Some(outer) = scopes.get(scope as usize) else {
         return Err(FlatFault::NotElaborated);

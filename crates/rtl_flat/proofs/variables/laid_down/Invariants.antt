@@ -1,9 +1,10 @@
-use Rattle.std.specs.List.{All}
-use Rattle.rtl_flat.specs.Laid.{VarStands, MemStands}
+use Rattle.std.proofs.Common.{◌≤◌}
+use Rattle.rtl_flat.specs.Laid.{VarsUpTo, MemsUpTo}
 use Rattle.rtl_flat.proofs.variables.laid_down.Given as goal
 
 abbrev pub invariant-loop-held : goal.invariant-loop-held
 invariant-loop-held l = record {
-  vars : All (VarStands l.scopes) l.vars;
-  mems : All (MemStands l.scopes) l.mems;
+  vars : VarsUpTo l.scopes l.scope l.vars;
+  mems : MemsUpTo l.scopes l.scope l.mems;
+  fits : l.scope ≤ 4294967295;
 }

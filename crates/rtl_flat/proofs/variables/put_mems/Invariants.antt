@@ -1,6 +1,5 @@
-use Rattle.std.specs.List.{All}
-use Rattle.rtl_flat.specs.Laid.{MemStands}
+use Rattle.rtl_flat.specs.Laid.{MemsUpTo}
 use Rattle.rtl_flat.proofs.variables.put_mems.Given as goal
 
 abbrev pub invariant-loop-held : goal.invariant-loop-held
-invariant-loop-held l = All (MemStands l.scopes) l.mems
+invariant-loop-held l = MemsUpTo l.scopes l.scope l.mems
