@@ -58,7 +58,14 @@ fn flattened(
 {
     let texts = imports_in(alloc, tree)?;
     let imports = flat_imports(alloc, names, texts.as_slice())?;
-    let parts = parts_of(alloc, tree, names, scopes, imports.as_slice(), texts.as_slice())?;
+    let parts = parts_of(
+        alloc,
+        tree,
+        names,
+        scopes,
+        imports.as_slice(),
+        texts.as_slice(),
+    )?;
     whole(alloc, scopes, parts, imports)
 }
 

@@ -12,16 +12,13 @@ use sqlite_items::Items;
 use std::alloc::Global;
 use sv_expr::{symbol, text_of};
 use sv_tree::{
-    Argument, CommaList, Description, GenBlock, Import as TreeImport, Item, ItemBranch, NameId, Names,
-    SourceTree, Symbol, Token, WordType,
+    Argument, CommaList, Description, GenBlock, Import as TreeImport, Item, ItemBranch, NameId,
+    Names, SourceTree, Symbol, Token, WordType,
 };
 use vs_base::{Origin, Text, ValueType, limits};
 
 /// All imports of a tree in token order, those among the items of modules too.
-pub fn imports_in<'t>(
-    alloc: Global,
-    tree: &'t SourceTree,
-) -> Result<Vec<&'t TreeImport>, FlatFault>
+pub fn imports_in<'t>(alloc: Global, tree: &'t SourceTree) -> Result<Vec<&'t TreeImport>, FlatFault>
     ensures { IfOk result (λ list. map (λ x. x.now) list.items ≡ spec.imports_of tree.now) }
 {
     let mut list = Vec::new(alloc);

@@ -30,12 +30,16 @@
 //!
 //! # What is proved
 //!
-//! Every call is safe and ends, and what comes out is a `Design`, with all that its type keeps.
+//! Every call is safe and ends, and what comes out is a `Design`, with all that its type keeps. Its scopes are those that come in;
+//! its imports are all those of the source, in token order, each with its types, its linkage name and its place
+//! (`specs/Imports.antt`); its ports are those of the first scope's module, port k as variable k, with their directions
+//! (`specs/Ports.antt`); each variable and each memory stands under the path of its scope, scope by scope (`specs/Laid.antt`). That
+//! the processes are those of the source, and the variables and memories all that it declares, is not proved.
 //!
 //! # Cost
 //!
 //! Linear in the scopes and the items laid down, besides what `rtl_lower` says of expressions and statements. Each
-//! import among items takes a binary search. The stack is as deep as the tree.
+//! import among items takes a binary search, and the top's module a search among the descriptions. The stack is as deep as the tree.
 //!
 //! ```text
 //! assign y = (a + b) >> 1;                      y = 8u(8u(a + b) >> 32s'1)

@@ -363,12 +363,7 @@ fn put_vars(
 }
 
 /// A variable of the scope of this number.
-fn new_var(
-    alloc: Global,
-    scopes: &[Scope],
-    scope: u32,
-    held: HeldVar,
-) -> Result<Var, FlatFault>
+fn new_var(alloc: Global, scopes: &[Scope], scope: u32, held: HeldVar) -> Result<Var, FlatFault>
     ensures stands { IfOk result (λ var. VarStands scopes.now var) }
     ensures scope { IfOk result (λ var. var_scope var ≡ scope) }
 {
@@ -406,12 +401,7 @@ fn put_mems(
 }
 
 /// A memory of the scope of this number.
-fn new_mem(
-    alloc: Global,
-    scopes: &[Scope],
-    scope: u32,
-    held: HeldMem,
-) -> Result<Mem, FlatFault>
+fn new_mem(alloc: Global, scopes: &[Scope], scope: u32, held: HeldMem) -> Result<Mem, FlatFault>
     ensures stands { IfOk result (λ mem. MemStands scopes.now mem) }
     ensures scope { IfOk result (λ mem. mem_scope mem ≡ scope) }
 {

@@ -105,11 +105,7 @@ fn chain(branches: &[TreeBranch], inside: &mut Inside<'_>) -> Result<Items<Branc
 
 /// The arms of a `case` that have labels, these in a context.
 #[cycle(stmt)]
-fn arms_of(
-    arms: &[TreeArm],
-    inside: &mut Inside<'_>,
-    kind: &Kind,
-) -> Result<Items<Arm>, FlatFault>
+fn arms_of(arms: &[TreeArm], inside: &mut Inside<'_>, kind: &Kind) -> Result<Items<Arm>, FlatFault>
     ensures { OnOk result (inside.new.table ≡ inside.old.table) }
 {
     let mut all = Items::new(inside.alloc);

@@ -47,12 +47,7 @@ pub fn count_of(expr: &Expr, here: &Here<'_>) -> Result<u32, FlatFault>
 }
 
 /// How many bits a part select has: `[m:l]` those from l to m, `[e +: c]` and `[e -: c]` c.
-pub fn part_width(
-    mark: Symbol,
-    from: &Expr,
-    to: &Expr,
-    here: &Here<'_>,
-) -> Result<Width, FlatFault>
+pub fn part_width(mark: Symbol, from: &Expr, to: &Expr, here: &Here<'_>) -> Result<Width, FlatFault>
     ensures { IfOk result (λ width. pos width ≡ part_bits mark (OwnReadingOf (environment here.now.view) from.now) (OwnReadingOf (environment here.now.view) to.now)) }
 {
     let to = number(to, here)?;

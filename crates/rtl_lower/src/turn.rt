@@ -59,11 +59,7 @@ pub fn enter_block(
 }
 
 /// The variable's value in the next turn, in the scope of this one. `None`: there is no turn, and the scope is left.
-fn turn(
-    head: &LoopHead,
-    inside: &mut Inside<'_>,
-    value: &Fixed,
-) -> Result<Option<Fixed>, FlatFault>
+fn turn(head: &LoopHead, inside: &mut Inside<'_>, value: &Fixed) -> Result<Option<Fixed>, FlatFault>
     ensures scope { IfOk result (λ next. MatchOption next (inside.new.table ≡ left inside.old.table) (λ _. inside.new.table ≡ inside.old.table)) }
     ensures goes_on { IfOk result (λ next. is_some next ≡ turns.holds (environment_in inside.old) head.now.test) }
     ensures next { IfOk result (λ next. IfSome next (λ fixed. valued fixed ≡ counted (turns.next (environment_in inside.old) head.now.step (cut_to 32 value.now.value)))) }

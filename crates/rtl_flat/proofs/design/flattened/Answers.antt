@@ -10,8 +10,8 @@ pub returns-clause-imports : goal.returns-clause-imports
 returns-clause-imports c =
     IfOk-weaker c.whole.result (λ d. d.imports ≡ c.in_ok-imports.imports) (λ d. AreImports c.args.names.now c.args.tree.now d.imports)
     (λ d is.
-        ap (map told) is ∙ (rw c.as_slice.ensures.value at c.in_ok-imports.ensures)
-        ∙ sym (map-map (told_of c.args.names.now) (λ x. x.now) c.in_ok-texts.texts.items) ∙ ap (map (told_of c.args.names.now)) c.in_ok-texts.ensures)
+    ap (map told) is ∙ (rw c.as_slice.ensures.value at c.in_ok-imports.ensures)
+    ∙ sym (map-map (told_of c.args.names.now) (λ x. x.now) c.in_ok-texts.texts.items) ∙ ap (map (told_of c.args.names.now)) c.in_ok-texts.ensures)
     c.whole.ensures.imports
 
 pub returns-clause-vars_order : goal.returns-clause-vars_order
