@@ -1,8 +1,9 @@
 -- The words that stand between two places.
-use Rattle.std.proofs.Common.{◌≡◌, ℕ, zero, suc, ◌+◌, ◌-◌, ◌<◌, ◌≤◌, Bool, true, false, ◌&&◌, leb, ltb, List, [], ◌∷◌, length, get_or, sym, ap, ◌∙◌, arith, inl, inr}
+use Rattle.std.proofs.Common.{min, ◌≡◌, ℕ, zero, suc, ◌+◌, ◌-◌, ◌<◌, ◌≤◌, Bool, true, false, ◌&&◌, leb, ltb, List, [], ◌∷◌, length, get_or, sym, ap, ◌∙◌, arith, inl, inr}
 use Rattle.std.specs.Prelude.{⊤}
 use Rattle.std.specs.List.Sorted.{IsNonDecreasing, IsPartitionPoint}
 use Rattle.std.proofs.lemmas.Bool.{cond_both, cases_lt, leb-true, leb-false, ltb-true, ltb-false, le-leb, lt-leb, lt-ltb, le-ltb}
+use Rattle.std.proofs.lemmas.Bool.Decides.{nat_tests}
 use Rattle.rtl_pieces.specs.declared.layout.Word.{Word}
 use Rattle.rtl_pieces.specs.Cover.{places_of}
 
@@ -72,6 +73,9 @@ swap true true z h = sym (ap (λ (t : Bool). t && true) h)
 swap true false z h = sym (ap (λ (t : Bool). t && false) h)
 swap false true z h = sym (ap (λ (t : Bool). t && false) h)
 swap false false z h = sym (ap (λ (t : Bool). t && false) h)
+
+pub same_end : (w end words : ℕ) → w < words → ltb w (min end words) ≡ ltb w end
+same_end w end words h = grind (arith, nat_tests)
 
 pub covers : (ns : List ℕ) (begun end from to : ℕ) → from < to
     → IsPartitionPoint (λ n. leb n from ≡ true) (λ n. leb n from ≡ false) ns begun

@@ -1,6 +1,6 @@
 //! The words that ranges of bits cover.
 
-ghost use Rattle.std.specs.Prelude.{◌≡◌, ◌&&◌, ◌<◌, ◌^◌, ℕ, suc, nat_le, nat_lt, length, slice_index, IfOk};
+ghost use Rattle.std.specs.Prelude.{◌≡◌, ◌&&◌, ◌<◌, ◌≤◌, ◌-◌, ◌^◌, ℕ, suc, nat_le, nat_lt, length, slice_index, IfOk};
 ghost use Rattle.std.specs.List.Sorted.{IsNonDecreasing};
 ghost use Rattle.rtl_pieces.specs.Cover.{places_of};
 
@@ -47,15 +47,17 @@ pub fn word_places(alloc: Global, layout: &Layout) -> Result<Vec<u128>, AllocErr
 pub fn words_of(places: &[u128], range: BitRange) -> WordRange
     requires rising { IsNonDecreasing places.now }
     requires few { length places.now < 2 ^ 32 }
-    ensures { (w : ℕ) → suc w < length places.now → (nat_le result.from w && nat_lt w result.to) ≡ (nat_lt range.from range.to && (nat_lt (slice_index places.now w) range.to && nat_lt range.from (slice_index places.now (suc w)))) }
+    ensures exactly { (w : ℕ) → suc w < length places.now → (nat_le result.from w && nat_lt w result.to) ≡ (nat_lt range.from range.to && (nat_lt (slice_index places.now w) range.to && nat_lt range.from (slice_index places.now (suc w)))) }
+    ensures within { result.to ≤ length places.now - 1 }
 {
     if range.to <= range.from {
         return WordRange { from: 0, to: 0 };
     }
+    let words = places.len().saturating_sub(1);
     let begun = places.partition_point(|place| *place <= range.from);
     let end = places.partition_point(|place| *place < range.to);
     WordRange {
         from: begun.saturating_sub(1) as u32,
-        to: end as u32,
+        to: end.min(words) as u32,
     }
 }
