@@ -1,7 +1,6 @@
 use Rattle.std.proofs.Common.{◌≡◌, map, sym, ap, subst, ◌∙◌}
 use Rattle.std.proofs.lemmas.Result.{IfOk-weaker}
 use Rattle.std.proofs.lemmas.Simd.{map-map}
-use Rattle.rtl_ir.specs.declared.design.Import.{Import}
 use Rattle.rtl_flat.specs.Imports.{AreImports, told, told_of}
 use Rattle.rtl_flat.specs.Laid.{ScopeByScope, var_scope, mem_scope}
 use Rattle.rtl_flat.proofs.design.flattened.Goals as goal

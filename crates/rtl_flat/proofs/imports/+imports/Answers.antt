@@ -5,7 +5,7 @@ use Rattle.std.proofs.lemmas.Result.{on_ok_weaker}
 use Rattle.sv_tree.specs.declared.tree.item.Import.{Import}
 use Rattle.sv_tree.specs.declared.tree.item.Item.{Item}
 use Rattle.sv_tree.specs.declared.tree.item.ItemBranch.{ItemBranch}
-use Rattle.rtl_flat.specs.Imports.{item_imports, block_imports, branch_imports}
+use Rattle.rtl_flat.specs.Imports.{item_imports, branch_imports}
 use Rattle.rtl_flat.specs.ImportsLaws as law
 use Rattle.rtl_flat.proofs.imports.+imports.Goals as goal
 

@@ -1,4 +1,4 @@
-use Rattle.std.proofs.Common.{◌≤◌, min, arith}
+use Rattle.std.proofs.Common.{◌≤◌, arith}
 use Rattle.rtl_flat.specs.Laid.{VarStands, MemStands, var_scope, mem_scope}
 use Rattle.rtl_flat.proofs.Laying.{none_yet, later}
 use Rattle.rtl_flat.proofs.variables.laid_down.Goals as goal
