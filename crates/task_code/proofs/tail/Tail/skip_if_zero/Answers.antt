@@ -1,0 +1,27 @@
+use Rattle.std.proofs.Common.{arith, ap, sym, subst, reverse, length, map, ◌∙◌, ◌<◌, ◌≡◌, ◌-◌, ℕ, List, slice_index}
+use Rattle.std.proofs.lemmas.List.{length-reverse}
+use Rattle.task_code.specs.declared.tail.Mark.{Mark}
+use Rattle.task_code.specs.Tails.{depth_at, Lands}
+use Rattle.task_code.proofs.Tailing.{put_zero, named_lands, named_depth, length_marks}
+use Rattle.task_code.proofs.tail.Tail.skip_if_zero.Goals as goal
+
+pub distance-requires : goal.distance-requires
+distance-requires c =
+    let there = subst (λ t. c.args.number < length t.held.marks) (sym c.self.view_is) c.requires.there in
+    let same = length_marks c.self.inside.marks.items in
+    let h : c.args.number < length c.self.inside.marks.items = omega (arith, there, same) in
+    let lands = named_lands c.self.inside.room (reverse c.self.inside.ops.items) c.self.inside.marks.items c.args.number c.len.result c.index-mark.result.now h (c.len.ensures ∙ c.self.inside.marks.ok.0) c.index-mark.ensures c.self.invariant.lands in
+    let l = lands.0 in let r = length-reverse c.self.inside.ops.items in let e = c.len-2.ensures ∙ c.self.inside.ops.ok.0 in omega (arith, l, r, e)
+
+pub invariant_of-self-2 : goal.invariant_of-self-2
+invariant_of-self-2 c =
+    let there = subst (λ t. c.args.number < length t.held.marks) (sym c.self.view_is) c.requires.there in
+    let is_depth = subst (λ t. slice_index t.held.marks c.args.number ≡ t.depth) (sym c.self.view_is) c.requires.same in
+    let same = length_marks c.self.inside.marks.items in
+    let h : c.args.number < length c.self.inside.marks.items = omega (arith, there, same) in
+    let lands = named_lands c.self.inside.room (reverse c.self.inside.ops.items) c.self.inside.marks.items c.args.number c.len.result c.index-mark.result.now h (c.len.ensures ∙ c.self.inside.marks.ok.0) c.index-mark.ensures c.self.invariant.lands in
+    let marked = named_depth c.self.inside.marks.items c.args.number c.len.result c.index-mark.result.now h (c.len.ensures ∙ c.self.inside.marks.ok.0) c.index-mark.ensures in
+    let r = length-reverse c.self.inside.ops.items in let e = c.len-2.ensures ∙ c.self.inside.ops.ok.0 in let d = c.in_ok-distance.ensures in
+    let room = c.max-self-inside.ensures in let next = c.in_ok-depth.ensures in
+    put_zero c.self.inside.room c.max-self-inside.result c.self.inside.depth c.in_ok-depth.depth c.in_ok-distance.distance c.self.inside.ops.items c.push.new.self.items (reverse c.self.inside.marks.items) c.self.inside.limits c.index-mark.result.now
+    c.self.invariant c.in_ok-push.ensures.items lands (omega (arith, r, e, d)) (marked ∙ is_depth) (omega (arith, room)) next (omega (arith, room))

@@ -1,0 +1,5 @@
+use Rattle.std.proofs.Common.{◌≡◌, ◌+◌}
+use Rattle.task_code.proofs.write.drop_all.Given as goal
+
+abbrev pub invariant-loop-number : goal.invariant-loop-number
+invariant-loop-number l = (l.out.depth ≡ l.initial.out.depth + l.number) × (l.out.held ≡ l.initial.out.held)
