@@ -3,9 +3,8 @@ use Rattle.std.proofs.Common.{◌≡◌, ℕ, zero, suc, ◌+◌, ◌<◌, Bool,
 use Rattle.std.proofs.lemmas.Bool.{true≢false}
 use Rattle.std.proofs.lemmas.List.{drop_more}
 use Rattle.task_eval.specs.declared.op.Op.{Op}
-use Rattle.task_eval.specs.declared.op.Op.TheVariants as op
 use Rattle.rtl_pieces.specs.declared.layout.Word.{Word}
-use Rattle.task_code.specs.Compiled.{IsWordOf, Copied, CopiedWhere, CopiesFrom}
+use Rattle.task_code.specs.Compiled.{Copied, CopiedWhere, CopiesFrom}
 
 -- the words from a number on are its word and those after it
 drop_on : (words : List Word) (n : ℕ) (w : Word) → n < length words → w ≡ get_or words n w → drop n words ≡ w ∷ drop (n + 1) words

@@ -1,14 +1,14 @@
 -- What is put to the front of the end of a code keeps what its type keeps.
-use Rattle.std.proofs.Common.{◌≡◌, ℕ, zero, suc, ◌+◌, ◌-◌, ◌<◌, ◌≤◌, Bool, true, false, List, [], ◌∷◌, ◌++◌, length, reverse, drop, map, slice_index, get_or, refl, sym, ap, subst, arith, ◌∙◌}
+use Rattle.std.proofs.Common.{◌≡◌, ℕ, zero, suc, ◌+◌, ◌-◌, ◌<◌, ◌≤◌, true, List, [], ◌∷◌, ◌++◌, length, reverse, map, slice_index, get_or, refl, sym, ap, subst, arith, ◌∙◌}
 use Rattle.std.proofs.lemmas.Bool.{false≢true}
 use Rattle.std.proofs.lemmas.List.{reverse-append, length-reverse, length-map, get_or-reverse, get_or-map}
 use Rattle.task_eval.specs.declared.op.Op.{Op}
 use Rattle.task_eval.specs.declared.op.Op.TheVariants as op
-use Rattle.task_eval.specs.Soundness.{takes, puts, IsShaped, IsFit, AllWays, IsSoundFrom, OpWithin, IsWithin}
+use Rattle.task_eval.specs.Soundness.{takes, puts, IsShaped, IsFit, AllWays, IsSoundFrom, OpWithin}
 use Rattle.task_eval.specs.SoundLaws.{sound_more}
 use Rattle.task_code.specs.declared.tail.Limits.{Limits}
 use Rattle.task_code.specs.declared.tail.Mark.{Mark}
-use Rattle.task_code.specs.Tails.{is_plain, StoresIn, AllStoreIn, Lands, AllLand, IsTail, depth_at}
+use Rattle.task_code.specs.Tails.{is_plain, StoresIn, Lands, AllLand, IsTail, depth_at}
 
 -- an op that skips nothing has one way on
 plain_ways : (o : Op) (Way : ℕ → Type 0) → is_plain o ≡ true → Way 0 → AllWays o Way

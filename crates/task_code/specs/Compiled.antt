@@ -1,5 +1,5 @@
 -- The codes of a design: one for each process, and then a commit for each clocked process.
-use Rattle.std.specs.Prelude.{◌≡◌, ℕ, suc, ◌+◌, ◌*◌, ◌<◌, Bool, true, false, ◌&&◌, List, [], ◌∷◌, length, Option, Some, None, slice_get}
+use Rattle.std.specs.Prelude.{◌≡◌, ℕ, suc, ◌+◌, ◌*◌, ◌<◌, Bool, true, false, ◌&&◌, List, [], ◌∷◌, Option, Some, None, slice_get}
 use Rattle.rtl_ir.specs.declared.design.Proc.{Proc}
 use Rattle.rtl_ir.specs.declared.design.ProcKind.{ProcKind}
 use Rattle.rtl_ir.specs.declared.design.ProcKind.TheVariants.{Comb, Clocked}

@@ -1,5 +1,5 @@
 -- Targets that one store writes.
-use Rattle.std.specs.Prelude.{ℕ, ◌≤◌}
+use Rattle.std.specs.Prelude.{◌≤◌}
 use Rattle.vs_base.specs.declared.limits.TheConstants.{WIDTH}
 use Rattle.task_code.specs.declared.sole.Sole.{Sole}
 use Rattle.task_code.specs.declared.sole.Sole.TheVariants as sole

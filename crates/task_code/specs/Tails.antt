@@ -1,5 +1,5 @@
 -- The end of a code, which grows at its front.
-use Rattle.std.specs.Prelude.{◌≡◌, ℕ, ◌+◌, ◌-◌, ◌*◌, ◌<◌, ◌≤◌, Bool, true, false, List, [], ◌∷◌, length}
+use Rattle.std.specs.Prelude.{ℕ, ◌+◌, ◌-◌, ◌*◌, ◌<◌, ◌≤◌, Bool, true, false, List, [], ◌∷◌, length}
 use Rattle.task_eval.specs.declared.op.Op.{Op}
 use Rattle.task_eval.specs.declared.op.Op.TheVariants as op
 use Rattle.task_eval.specs.Soundness.{IsSoundFrom, IsWithin}

@@ -36,14 +36,12 @@
 //! `specs/Compiled.antt` has the definitions.
 //!
 //! - The number of codes is that of the processes and the clocked processes.
-//! - The codes are sound, by their type, and name only words of the layout and imports of the design. How deep the stack gets is
-//!   what the ops need and no more.
+//! - The codes are sound, by their type, and name only words of the layout and imports of the design.
 //! - The body of a clocked process stores shadows alone, and that of another one stores no shadow.
 //! - A commit is exactly the list of a load of a shadow and a store of its word, for each shadow whose bits the process writes, in
 //!   order.
 //!
-//! That a code makes the writes and the calls of its process is tested, not proved; `code_tests` has rows for all operators, and
-//! each form.
+//! That a code makes the writes and the calls of its process is not proved yet.
 //!
 //! A layout that is not that of the design, and a design that elaboration does not give, are answered by want of memory, since
 //! [`compile`] has no other fault; no value is made up. The tests for it are those of `table` and `here`, of the widths that are

@@ -1,4 +1,4 @@
-use Rattle.std.proofs.Common.{subst, sym, take, length, List, [], ◌∷◌, ◌++◌, ◌<◌, ◌≡◌, get_or}
+use Rattle.std.proofs.Common.{subst, sym, take, length, [], ◌∷◌, ◌++◌, ◌<◌, ◌≡◌, get_or}
 use Rattle.std.specs.List.{All}
 use Rattle.task_eval.specs.Soundness.{IsWithin}
 use Rattle.task_eval.specs.Codes.{Ops}

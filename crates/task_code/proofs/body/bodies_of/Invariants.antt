@@ -1,4 +1,4 @@
-use Rattle.std.proofs.Common.{◌≡◌, take, length}
+use Rattle.std.proofs.Common.{take, length}
 use Rattle.std.specs.List.{All}
 use Rattle.task_eval.specs.Soundness.{IsWithin}
 use Rattle.task_code.specs.Compiled.{Each, IsBody}

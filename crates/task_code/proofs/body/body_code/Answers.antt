@@ -1,7 +1,4 @@
-use Rattle.std.proofs.Common.{◌≡◌, ◌∙◌, ℕ, ◌<◌, ◌≤◌, arith, sym, ap, subst, true, false, nat_le, length, IfOk}
-use Rattle.task_eval.specs.Codes.{Ops}
-use Rattle.task_code.specs.Tails.{AllStoreIn}
-use Rattle.task_code.specs.Compiled.{IsBody, Stores, is_shadow, kind_is_clocked}
+use Rattle.std.proofs.Common.{◌∙◌, sym}
 use Rattle.task_code.proofs.Bodies.{body_kept, body_direct}
 use Rattle.task_code.proofs.body.body_code.Goals as goal
 

@@ -1,5 +1,4 @@
-use Rattle.std.proofs.Common.{◌≡◌, ◌∙◌, ◌+◌, ◌++◌, ap, sym, subst, arith, take, drop, length, length-append, ℕ, List}
-use Rattle.rtl_pieces.specs.declared.layout.Word.{Word}
+use Rattle.std.proofs.Common.{◌∙◌, ◌+◌, ap, sym, subst, take, drop, length, length-append, ℕ}
 use Rattle.rtl_pieces.specs.Bits.{line_in, writes}
 use Rattle.rtl_pieces.specs.Line.{place_of}
 use Rattle.task_eval.specs.Codes.{Ops}

@@ -1,4 +1,4 @@
-use Rattle.std.proofs.Common.{◌≡◌, ◌∙◌, ◌++◌, [], ◌∷◌, sym, subst, take, length, get_or, ℕ}
+use Rattle.std.proofs.Common.{◌≡◌, ◌∙◌, ◌++◌, [], ◌∷◌, sym, subst, take, get_or, ℕ}
 use Rattle.rtl_pieces.specs.Bits.{line_in, writes}
 use Rattle.rtl_pieces.specs.Line.{place_of}
 use Rattle.task_eval.specs.Codes.{Ops}

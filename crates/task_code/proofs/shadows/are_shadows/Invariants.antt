@@ -1,4 +1,4 @@
-use Rattle.std.proofs.Common.{◌≡◌, ◌<◌, ◌≤◌, ℕ, true, length}
+use Rattle.std.proofs.Common.{◌≡◌, ◌<◌, ◌≤◌, ℕ, true}
 use Rattle.task_code.specs.Compiled.{is_shadow}
 use Rattle.task_code.proofs.shadows.are_shadows.Given as goal
 

@@ -1,4 +1,4 @@
-use Rattle.std.proofs.Common.{◌≡◌, ◌<◌, ◌≤◌, ℕ, false, length}
+use Rattle.std.proofs.Common.{◌≡◌, ◌<◌, ℕ, false}
 use Rattle.task_code.specs.Compiled.{is_shadow}
 use Rattle.task_code.proofs.shadows.others.Given as goal
 

@@ -1,4 +1,4 @@
-use Rattle.std.proofs.Common.{arith, sym, subst, reverse, ◌≤◌, ◌≡◌, ◌-◌, ◌+◌}
+use Rattle.std.proofs.Common.{arith, sym, subst, reverse, ◌≤◌}
 use Rattle.task_eval.specs.Soundness.{OpWithin}
 use Rattle.task_code.specs.Tails.{StoresIn}
 use Rattle.task_code.proofs.Tailing.{put_plain}

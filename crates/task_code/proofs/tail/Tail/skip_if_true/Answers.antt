@@ -1,7 +1,5 @@
-use Rattle.std.proofs.Common.{arith, ap, sym, subst, reverse, length, map, ◌∙◌, ◌<◌, ◌≡◌, ◌-◌, ℕ, List, slice_index}
+use Rattle.std.proofs.Common.{arith, sym, subst, reverse, length, ◌∙◌, ◌<◌, ◌≡◌, slice_index}
 use Rattle.std.proofs.lemmas.List.{length-reverse}
-use Rattle.task_code.specs.declared.tail.Mark.{Mark}
-use Rattle.task_code.specs.Tails.{depth_at, Lands}
 use Rattle.task_code.proofs.Tailing.{put_true, named_lands, named_depth, length_marks}
 use Rattle.task_code.proofs.tail.Tail.skip_if_true.Goals as goal
 
