@@ -1,0 +1,82 @@
+//! The runner.
+ghost use Rattle.std.specs.Prelude.{◌≡◌, ◌≤◌, length, [], IfOk};
+ghost use Rattle.task_eval.specs.Codes.{deepest};
+ghost use Rattle.plan_types.specs.Machine.{opening};
+ghost use Rattle.plain_runner.specs.Seen.{seen_of, env_of, machine_of};
+ghost use Rattle.plain_runner.specs.Tabled.{AreTables};
+
+use crate::callee::Called;
+use crate::eval::evaluate;
+use crate::live::{Live, Past};
+use crate::open::{Room, memory, tables as tables_of};
+use crate::tables::Tables;
+use dpi_host::{CallRec, Host, NoMemory};
+use plan_types::{Built, RunFault, Runner};
+use std::alloc::Global;
+use task_eval::Frame;
+use vs_base::Bits;
+
+/// Runs a model on one thread, node by node in serial order.
+#[derive(Drop)]
+pub struct PlainRunner<H> {
+    built: Built,
+    tables: Tables,
+    frame: Frame,
+    live: Live<Called<H>>,
+    past: Past,
+    ghost tabled: { AreTables built tables },
+    ghost room: { deepest built.codes ≤ frame.room },
+    ghost words: { length live.words.items ≡ length built.layout.words.items },
+    ghost last: { length past.last.items ≡ length built.layout.words.items },
+    ghost fired: { length past.fired.items ≡ length built.design.procs },
+}
+
+impl<H: Host> PlainRunner<H> {
+    /// A runner of a model on a host, before its first eval. `NoMemory`: there was none left.
+    pub fn open(alloc: Global, built: Built, host: H) -> Result<PlainRunner<H>, NoMemory>
+        ensures built { IfOk result (λ runner. ⟦<PlainRunner<H> as Runner>⟧.built runner ≡ built) }
+        ensures machine { IfOk result (λ runner. ⟦<PlainRunner<H> as Runner>⟧.machine runner ≡ opening built (H.fixed host) (H.state host)) }
+    {
+        let tables = tables_of(alloc, &built)?;
+        let Room { frame, words, past } = memory(alloc, &built)?;
+        let calls = Vec::new(alloc);
+        Ok(PlainRunner {
+            built,
+            tables,
+            frame,
+            live: Live {
+                host: Called { host },
+                words,
+                calls,
+            },
+            past,
+        })
+    }
+}
+
+impl<H: Host> Runner for PlainRunner<H> {
+    type Host = H;
+
+    ghost built = { λ r. r.built };
+
+    ghost machine = { λ r. machine_of (env_of (H.fixed r.live.host.host) r.built.ids r.tables.widths.items r.built.deemed) r.past.last.items (seen_of r.live.words.items (H.state r.live.host.host) r.live.calls.items) };
+
+    fn eval(&mut self, inputs: &[Bits]) -> Result<(), RunFault> {
+        evaluate(
+            &self.built,
+            &self.tables,
+            &mut self.frame,
+            &mut self.live,
+            &mut self.past,
+            inputs,
+        )
+    }
+
+    fn word(&self, word: u32) -> u64 {
+        self.live.words[word as usize]
+    }
+
+    fn calls(&self) -> &[CallRec] {
+        self.live.calls.as_slice()
+    }
+}
