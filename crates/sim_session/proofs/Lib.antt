@@ -1,0 +1,9 @@
+mod Steps
+mod Placing
+mod Lengths
+mod Gathered
+mod Going
+mod Sets
+mod Creating
+mod Examples
+mod Sessions

@@ -1,0 +1,15 @@
+use Rattle.std.proofs.Common.{◌≡◌, ap, ◌∙◌, length}
+use Rattle.plan_types.specs.Machine.{Machine}
+use Rattle.sim_session.specs.Inputs.{inputs_at}
+use Rattle.sim_session.proofs.Lengths.{evaluated_length}
+use Rattle.sim_session.proofs.eval.advance.Goals as goal
+
+pub put_values-requires-clause-words : goal.put_values-requires-clause-words
+put_values-requires-clause-words g c κs held =
+    ap (λ (m : Machine). length m.outside.words) c.in-Ok.ensures.machine
+    ∙ evaluated_length g.R.Host.Host.answer g.R.Host.Host.after c.args.built.now (inputs_at c.args.built.now.design.ports c.args.set.now) (g.R.Runner.machine c.args.runner.now) ∙ c.requires.words
+
+pub returns-clause-words : goal.returns-clause-words
+returns-clause-words g c =
+    ap (λ (m : Machine). length m.outside.words) c.in-Ok.ensures.machine
+    ∙ evaluated_length g.R.Host.Host.answer g.R.Host.Host.after c.args.built.now (inputs_at c.args.built.now.design.ports c.args.set.now) (g.R.Runner.machine c.args.runner.now) ∙ c.requires.words

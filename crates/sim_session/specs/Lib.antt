@@ -1,0 +1,10 @@
+pub mod Lines
+pub mod CallLines
+pub mod Inputs
+pub mod Values
+pub mod Pieces
+pub mod PieceLaws
+pub mod Runs
+pub mod RunLaws
+pub mod Ready
+pub mod Files
