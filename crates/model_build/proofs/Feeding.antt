@@ -1,0 +1,230 @@
+-- That the edges between processes by their words are those by their bits.
+use Rattle.std.proofs.Common.{◌≡◌, ℕ, zero, suc, ◌+◌, ◌<◌, ◌≤◌, ◌==◌, Bool, true, false, cond, ◌&&◌, ◌||◌, not, List, [], ◌∷◌, ◌++◌, length, Option, Some, None, max, min, refl, sym, ap, ◌∙◌, subst, arith, inl, inr, ◌⊎◌}
+use Rattle.std.specs.Prelude.{nat_lt, nat_le, slice_get, slice_index, if◌then◌else◌}
+use Rattle.std.specs.List.{list_any}
+use Rattle.std.proofs.lemmas.Bool.{and_parts, and_from, cases_Bool, cases_eq, ltb-true, ltb-false, leb-true, le-leb, lt-ltb, or_cases, or_left, or_right}
+use Rattle.plan_graph.specs.declared.node.Edge.{Edge}
+use Rattle.rtl_ir.specs.declared.design.Proc.{Proc}
+use Rattle.rtl_ir.specs.declared.whole.Design.{Design}
+use Rattle.rtl_pieces.specs.declared.range.BitRange.{BitRange}
+use Rattle.rtl_pieces.specs.declared.layout.Word.{Word}
+use Rattle.rtl_pieces.specs.Line.{Line, has}
+use Rattle.rtl_pieces.specs.Bits.{line_in, writes, reads, names, named_left}
+use Rattle.rtl_pieces.specs.Cover.{places_of}
+use Rattle.rtl_pieces.specs.Words.{writer_of, first_writer, words_in}
+use Rattle.logic_graph.specs.declared.ranges.WordRange.{WordRange}
+use Rattle.logic_graph.specs.declared.ranges.Touched.{Touched}
+use Rattle.logic_graph.specs.Reading.{has_word, meets, meet_somewhere, edge_to, edges_out_of, edges_of}
+use Rattle.logic_graph.specs.Reading as words
+use Rattle.model_build.specs.Drivers.{OneDriver}
+use Rattle.model_build.specs.Cuts.{IsCut}
+use Rattle.model_build.specs.Touching.{Each, IsTouched, WordsAre, is_in}
+use Rattle.model_build.specs.Settle.{some_below, feeds, edges_out, edges_from, read_edges, combs_of}
+use Rattle.model_build.proofs.Covering.{Stands, places_with, places_in, covered, same_writer, has_bits, bit_in, word_in}
+
+-- ---- ranges meet where they have a word in common
+
+common_of_one : (r : WordRange) (others : List WordRange) → list_any (meets r) others ≡ true → (w : ℕ) × (has_word w r ≡ true) × (list_any (has_word w) others ≡ true)
+common_of_one r [] met = absurd (let e : false ≡ true = met in cc)
+common_of_one r (s ∷ others) met = by_cases (λ rest. common_of_one r others rest) (or_cases (meets r s) (list_any (meets r) others) met)
+  where
+    by_cases : (list_any (meets r) others ≡ true → (w : ℕ) × (has_word w r ≡ true) × (list_any (has_word w) others ≡ true)) → (meets r s ≡ true) ⊎ (list_any (meets r) others ≡ true)
+        → (w : ℕ) × (has_word w r ≡ true) × (list_any (has_word w) (s ∷ others) ≡ true)
+    by_cases more (inl e) =
+        let less = ltb-true (max r.first s.first) (min r.end s.end) e in
+        let w = max r.first s.first in
+        let in_one : has_word w r ≡ true = and_from (nat_le r.first w) (nat_lt w r.end) (le-leb r.first w (omega arith)) (lt-ltb w r.end (omega arith)) in
+        let in_other : has_word w s ≡ true = and_from (nat_le s.first w) (nat_lt w s.end) (le-leb s.first w (omega arith)) (lt-ltb w s.end (omega arith)) in
+        (w, in_one, or_left (has_word w s) (list_any (has_word w) others) in_other)
+    by_cases more (inr rest) = let w = more rest in (w.0, w.1, or_right (has_word w.0 s) (list_any (has_word w.0) others) w.2)
+
+common_word : (some others : List WordRange) → meet_somewhere some others ≡ true → (w : ℕ) × (list_any (has_word w) some ≡ true) × (list_any (has_word w) others ≡ true)
+common_word [] others met = absurd (let e : false ≡ true = met in cc)
+common_word (r ∷ some) others met = by_cases (λ rest. common_word some others rest) (or_cases (list_any (meets r) others) (meet_somewhere some others) met)
+  where
+    by_cases : (meet_somewhere some others ≡ true → (w : ℕ) × (list_any (has_word w) some ≡ true) × (list_any (has_word w) others ≡ true)) → (list_any (meets r) others ≡ true) ⊎ (meet_somewhere some others ≡ true)
+        → (w : ℕ) × (list_any (has_word w) (r ∷ some) ≡ true) × (list_any (has_word w) others ≡ true)
+    by_cases more (inl e) = let w = common_of_one r others e in (w.0, or_left (has_word w.0 r) (list_any (has_word w.0) some) w.1, w.2)
+    by_cases more (inr rest) = let w = more rest in (w.0, or_right (has_word w.0 r) (list_any (has_word w.0) some) w.1, w.2)
+
+meets_at : (w : ℕ) (r s : WordRange) → has_word w r ≡ true → has_word w s ≡ true → meets r s ≡ true
+meets_at w r s one two =
+    let a = and_parts (nat_le r.first w) (nat_lt w r.end) one in
+    let b = and_parts (nat_le s.first w) (nat_lt w s.end) two in
+    let c = ltb-true w r.end a.1 in
+    let d = ltb-true w s.end b.1 in
+    let e = leb-true r.first w a.0 in
+    let f = leb-true s.first w b.0 in
+    lt-ltb (max r.first s.first) (min r.end s.end) (omega arith)
+
+meet_one : (w : ℕ) (r : WordRange) (others : List WordRange) → has_word w r ≡ true → list_any (has_word w) others ≡ true → list_any (meets r) others ≡ true
+meet_one w r [] here any = absurd (let e : false ≡ true = any in cc)
+meet_one w r (s ∷ others) here any = by_cases (λ rest. meet_one w r others here rest) (or_cases (has_word w s) (list_any (has_word w) others) any)
+  where
+    by_cases : (list_any (has_word w) others ≡ true → list_any (meets r) others ≡ true) → (has_word w s ≡ true) ⊎ (list_any (has_word w) others ≡ true) → list_any (meets r) (s ∷ others) ≡ true
+    by_cases more (inl e) = or_left (meets r s) (list_any (meets r) others) (meets_at w r s here e)
+    by_cases more (inr rest) = or_right (meets r s) (list_any (meets r) others) (more rest)
+
+meet_from : (w : ℕ) (some others : List WordRange) → list_any (has_word w) some ≡ true → list_any (has_word w) others ≡ true → meet_somewhere some others ≡ true
+meet_from w [] others one two = absurd (let e : false ≡ true = one in cc)
+meet_from w (r ∷ some) others one two = by_cases (λ rest. meet_from w some others rest two) (or_cases (has_word w r) (list_any (has_word w) some) one)
+  where
+    by_cases : (list_any (has_word w) some ≡ true → meet_somewhere some others ≡ true) → (has_word w r ≡ true) ⊎ (list_any (has_word w) some ≡ true) → meet_somewhere (r ∷ some) others ≡ true
+    by_cases more (inl e) = or_left (list_any (meets r) others) (meet_somewhere some others) (meet_one w r others e two)
+    by_cases more (inr rest) = or_right (list_any (meets r) others) (meet_somewhere some others) (more rest)
+
+-- ---- the writer of a bit
+
+writer_writes : (test : ℕ → ℕ → Bool) (number more b p : ℕ) → first_writer test number more b ≡ Some p → test p b ≡ true
+writer_writes test number zero b p is = absurd (let e : None ≡ Some p = is in cc)
+writer_writes test number (suc more) b p is = by_test (cases_Bool (test number b))
+  where
+    by_test : (test number b ≡ true) ⊎ (test number b ≡ false) → test p b ≡ true
+    by_test (inl e) =
+        let here : Some number ≡ Some p = sym (ap (λ (t : Bool). cond t (Some number) (first_writer test (suc number) more b)) e) ∙ is in
+        let same : number ≡ p = cc in
+        ap (λ (n : ℕ). test n b) (sym same) ∙ e
+    by_test (inr e) = writer_writes test (suc number) more b p (sym (ap (λ (t : Bool). cond t (Some number) (first_writer test (suc number) more b)) e) ∙ is)
+
+writer_some : (test : ℕ → ℕ → Bool) (number more b p : ℕ) → number ≤ p → p < number + more → test p b ≡ true → (q : ℕ) × (first_writer test number more b ≡ Some q)
+writer_some test number zero b p low high is = absurd (omega arith)
+writer_some test number (suc more) b p low high is = by_test (cases_Bool (test number b)) (cases_eq number p)
+  where
+    by_test : (test number b ≡ true) ⊎ (test number b ≡ false) → (number ≡ p) ⊎ (number ≡ p → ⊥) → (q : ℕ) × (first_writer test number (suc more) b ≡ Some q)
+    by_test (inl e) other = (number, ap (λ (t : Bool). cond t (Some number) (first_writer test (suc number) more b)) e)
+    by_test (inr e) (inl same) = absurd (let one : test number b ≡ true = ap (λ (n : ℕ). test n b) same ∙ is in let two : true ≡ false = sym one ∙ e in cc)
+    by_test (inr e) (inr other) =
+        let rest = writer_some test (suc number) more b p (omega arith) (omega arith) is in
+        (rest.0, ap (λ (t : Bool). cond t (Some number) (first_writer test (suc number) more b)) e ∙ rest.1)
+
+get_past : (procs : List Proc) (p : ℕ) → length procs ≤ p → slice_get procs p ≡ None
+get_past [] p past = refl
+get_past (process ∷ more) zero past = absurd (omega arith)
+get_past (process ∷ more) (suc p) past = get_past more p (omega arith)
+
+-- what writes is a process
+is_process : (line : Line) (procs : List Proc) (p b : ℕ) → writes line procs p b ≡ true → p < length procs
+is_process line procs p b is = by_test (cases_Bool (nat_lt p (length procs)))
+  where
+    by_test : (nat_lt p (length procs) ≡ true) ⊎ (nat_lt p (length procs) ≡ false) → p < length procs
+    by_test (inl e) = ltb-true p (length procs) e
+    by_test (inr e) =
+        let none = get_past procs p (ltb-false p (length procs) e) in
+        let parts = and_parts (nat_lt b line.bits) (has b (named_left line (slice_get procs p))) is in
+        absurd (let no : false ≡ true = sym (ap (λ (o : Option Proc). has b (named_left line o)) none) ∙ parts.1 in cc)
+
+module _ (design : Design) (one : OneDriver design) where
+  is_writer : (p b : ℕ) → writes (line_in design) design.procs p b ≡ true → writer_of (line_in design) design.procs b ≡ Some p
+  is_writer p b is =
+      let some = writer_some (writes (line_in design) design.procs) 0 (length design.procs) b p (omega arith) (is_process (line_in design) design.procs p b is) is in
+      some.1 ∙ ap Some (one.single b some.0 p (writer_writes (writes (line_in design) design.procs) 0 (length design.procs) b some.0 some.1) is)
+
+-- ---- some number below a bound
+
+below_from : (passes : ℕ → Bool) (n b : ℕ) → b < n → passes b ≡ true → some_below passes n ≡ true
+below_from passes zero b less is = absurd (omega arith)
+below_from passes (suc n) b less is = by_eq (cases_eq b n)
+  where
+    by_eq : (b ≡ n) ⊎ (b ≡ n → ⊥) → (passes n || some_below passes n) ≡ true
+    by_eq (inl same) = or_left (passes n) (some_below passes n) (ap passes (sym same) ∙ is)
+    by_eq (inr other) = or_right (passes n) (some_below passes n) (below_from passes n b (let apart : b ≡ n → ⊥ = other in omega arith) is)
+
+below_some : (passes : ℕ → Bool) (n : ℕ) → some_below passes n ≡ true → (b : ℕ) × (b < n) × (passes b ≡ true)
+below_some passes zero is = absurd (let e : false ≡ true = is in cc)
+below_some passes (suc n) is = by_cases (λ rest. below_some passes n rest) (or_cases (passes n) (some_below passes n) is)
+  where
+    by_cases : (some_below passes n ≡ true → (b : ℕ) × (b < n) × (passes b ≡ true)) → (passes n ≡ true) ⊎ (some_below passes n ≡ true) → (b : ℕ) × (b < suc n) × (passes b ≡ true)
+    by_cases more (inl e) = (n, omega arith, e)
+    by_cases more (inr rest) = let found = more rest in (found.0, let less = found.1 in omega arith, found.2)
+
+both : (a b : Bool) → (a ≡ true → b ≡ true) → (b ≡ true → a ≡ true) → a ≡ b
+both true b one two = sym (one refl)
+both false true one two = two refl
+both false false one two = refl
+
+-- ---- one process feeds another where their words meet
+
+module _ (design : Design) (cut_words : List Word) (cut : IsCut design cut_words) (one : OneDriver design) where
+  abbrev places : List ℕ
+  places = places_with (line_in design) design.procs
+
+  abbrev Of : ℕ → Touched → Type 0
+  Of = IsTouched (line_in design) design.procs (places_with (line_in design) design.procs)
+
+  bit_of : (bits : ℕ → Bool) (ranges : List WordRange) → WordsAre places bits ranges → (w : ℕ) → list_any (has_word w) ranges ≡ true → (b : ℕ) × Stands places w b × (bits b ≡ true)
+  bit_of bits ranges are w has_it =
+      let found = bit_in places (has_bits design cut_words cut) w are.ranges (sym (are.same_words w) ∙ has_it) in
+      (found.0, found.1, sym (are.same_bits found.0) ∙ found.2)
+
+  word_of_bit : (bits : ℕ → Bool) (ranges : List WordRange) → WordsAre places bits ranges → (w b : ℕ) → Stands places w b → bits b ≡ true → list_any (has_word w) ranges ≡ true
+  word_of_bit bits ranges are w b stands is =
+      are.same_words w ∙ word_in places (has_bits design cut_words cut) w b are.ranges stands (are.same_bits b ∙ is)
+
+  feeds_where_met : (p q : ℕ) (t u : Touched) → Of p t → Of q u → meet_somewhere t.writes u.reads ≡ true → feeds (line_in design) design.procs p q ≡ true
+  feeds_where_met p q t u of_p of_q met =
+      let w = common_word t.writes u.reads met in
+      let written = bit_of (writes (line_in design) design.procs p) t.writes of_p.written w.0 w.1 in
+      let read = bit_of (reads (line_in design) design.procs q) u.reads of_q.read w.0 w.2 in
+      let c = read.0 in
+      let of_c : writer_of (line_in design) design.procs c ≡ Some p = same_writer design cut_words cut w.0 c written.0 read.1 written.1 ∙ is_writer design one p written.0 written.2 in
+      let writes_c = writer_writes (writes (line_in design) design.procs) 0 (length design.procs) c p of_c in
+      let less = ltb-true c (line_in design).bits (and_parts (nat_lt c (line_in design).bits) (has c (named_left (line_in design) (slice_get design.procs p))) writes_c).0 in
+      below_from (λ b. writes (line_in design) design.procs p b && reads (line_in design) design.procs q b) (line_in design).bits c less (and_from (writes (line_in design) design.procs p c) (reads (line_in design) design.procs q c) writes_c read.2)
+
+  met_where_feeds : (p q : ℕ) (t u : Touched) → Of p t → Of q u → feeds (line_in design) design.procs p q ≡ true → meet_somewhere t.writes u.reads ≡ true
+  met_where_feeds p q t u of_p of_q fed =
+      let found = below_some (λ b. writes (line_in design) design.procs p b && reads (line_in design) design.procs q b) (line_in design).bits fed in
+      let b = found.0 in
+      let parts = and_parts (writes (line_in design) design.procs p b) (reads (line_in design) design.procs q b) found.2 in
+      let w = covered design cut_words cut b found.1 in
+      meet_from w.0 t.writes u.reads
+      (word_of_bit (writes (line_in design) design.procs p) t.writes of_p.written w.0 b w.1 parts.0)
+      (word_of_bit (reads (line_in design) design.procs q) u.reads of_q.read w.0 b w.1 parts.1)
+
+  meets_is_feeds : (p q : ℕ) (t u : Touched) → Of p t → Of q u → meet_somewhere t.writes u.reads ≡ feeds (line_in design) design.procs p q
+  meets_is_feeds p q t u of_p of_q = both (meet_somewhere t.writes u.reads) (feeds (line_in design) design.procs p q) (feeds_where_met p q t u of_p of_q) (met_where_feeds p q t u of_p of_q)
+
+  -- ---- the edges
+
+  out_same : (i p : ℕ) (t : Touched) → Of p t → (at : ℕ) (qs : List ℕ) (us : List Touched) → Each Of qs us → edges_out_of i t.writes at us ≡ edges_out (feeds (line_in design) design.procs) i p at qs
+  out_same i p t of_p at [] [] each = refl
+  out_same i p t of_p at [] (u ∷ us) each = absurd each
+  out_same i p t of_p at (q ∷ qs) [] each = absurd each
+  out_same i p t of_p at (q ∷ qs) (u ∷ us) each =
+      let met = meets_is_feeds p q t u of_p each.0 in
+      let rest = out_same i p t of_p (suc at) qs us each.1 in
+      λ j. cond (not (at == i) && met j) (edge_to i at ∷ rest j) (rest j)
+
+  from_same : (at : ℕ) (ps : List ℕ) (ts : List Touched) → Each Of ps ts → (qs : List ℕ) (us : List Touched) → Each Of qs us → words.edges_from at ts us ≡ edges_from (feeds (line_in design) design.procs) at ps qs
+  from_same at [] [] each qs us others = refl
+  from_same at [] (t ∷ ts) each qs us others = absurd each
+  from_same at (p ∷ ps) [] each qs us others = absurd each
+  from_same at (p ∷ ps) (t ∷ ts) each qs us others =
+      let here = out_same at p t each.0 0 qs us others in
+      let rest = from_same (suc at) ps ts each.1 qs us others in
+      λ j. here j ++ rest j
+
+each_at : {R : List ℕ → ℕ → Touched → Type 0} (x y : List ℕ) → x ≡ y → (ps : List ℕ) (ts : List Touched) → Each (R x) ps ts → Each (R y) ps ts
+each_at {R} x y e ps ts each = subst (λ (z : List ℕ). Each (R z) ps ts) e each
+
+-- the edges by words are those by bits
+pub edges_same : (design : Design) (cut_words : List Word) (combs : List ℕ) (ts : List Touched) → IsCut design cut_words → OneDriver design → combs ≡ combs_of design.procs
+    → Each (IsTouched (line_in design) design.procs (places_of 0 cut_words)) combs ts → edges_of ts ≡ read_edges design
+unfolding read_edges
+edges_same design cut_words combs ts cut one are each =
+    let is : places_of 0 cut_words ≡ places_with (line_in design) design.procs = ap (places_of 0) cut.words_are ∙ places_in (line_in design) design.procs in
+    let all = each_at {R = λ places. IsTouched (line_in design) design.procs places} (places_of 0 cut_words) (places_with (line_in design) design.procs) is combs ts each in
+    from_same design cut_words cut one 0 combs ts all combs ts all
+    ∙ ap (λ (ps : List ℕ). edges_from (feeds (line_in design) design.procs) 0 ps ps) are
+
+pub each_length : {A B : Type 0} (R : A → B → Type 0) (xs : List A) (ys : List B) → Each R xs ys → length ys ≡ length xs
+each_length R [] [] each = refl
+each_length R [] (y ∷ ys) each = absurd each
+each_length R (x ∷ xs) [] each = absurd each
+each_length R (x ∷ xs) (y ∷ ys) each = let rest = each_length R xs ys each.1 in omega arith
+
+pub each_push : {A B : Type 0} (R : A → B → Type 0) (xs : List A) (ys : List B) (a : A) (b : B) → Each R xs ys → R a b → Each R (xs ++ a ∷ []) (ys ++ b ∷ [])
+each_push R [] [] a b each is = (is, tt)
+each_push R [] (y ∷ ys) a b each is = absurd each
+each_push R (x ∷ xs) [] a b each is = absurd each
+each_push R (x ∷ xs) (y ∷ ys) a b each is = (each.0, each_push R xs ys a b each.1 is)

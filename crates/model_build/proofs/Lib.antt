@@ -1,0 +1,6 @@
+pub mod Stages
+pub mod Covering
+pub mod Feeding
+pub mod Coding
+pub mod Uses
+pub mod Touch

@@ -1,0 +1,6 @@
+use Rattle.std.proofs.Common.{take}
+use Rattle.model_build.specs.Touching.{Each, IsTouched}
+use Rattle.model_build.proofs.touched.all_touched.Given as goal
+
+abbrev pub invariant-loop-proc : goal.invariant-loop-proc
+invariant-loop-proc l = Each (IsTouched l.ground.line l.ground.design.procs l.ground.places) (take l.proc-index l.procs) l.all.items

@@ -1,0 +1,9 @@
+pub mod Names
+pub mod Drivers
+pub mod Imports
+pub mod Touching
+pub mod Settle
+pub mod Costs
+pub mod Cuts
+pub mod Answer
+pub mod Plans
