@@ -8,9 +8,9 @@ use Rattle.vs_world.specs.declared.world.Stream.TheVariants.{Out, Errors, Calls,
 use Rattle.vs_world.specs.Outside.{Made, IsMade, IsOpen, IsCreatable, Rose}
 use Rattle.vs_world.specs.CountLaws.{rose_between}
 use Rattle.sim_session.specs.declared.fault.SessionFault.{SessionFault}
-use Rattle.sim_session.specs.declared.fault.SessionFault.TheVariants.{NoMemory, World}
+use Rattle.sim_session.specs.declared.fault.SessionFault.TheVariants.{NoMemory}
 use Rattle.sim_session.specs.Pieces.{Piece, Seen, Wrote, Ended, IsOpened}
-use Rattle.sim_session.specs.Files.{named, and_made, Created, NotCreated, Partly, Uncreated, Broken, RunEnded}
+use Rattle.sim_session.specs.Files.{named, and_made, Created, NotCreated, Uncreated}
 
 made_none : (told : Option Made) → told ≡ option_map (and_made []) told
 made_none None = refl
@@ -33,16 +33,11 @@ created_then a b s0 s1 s2 u v = record {
 }
 
 pub uncreated_now : (files : Made) (fault : SessionFault) (s : Seen) → fault ≡ NoMemory → Uncreated fault files s s
-uncreated_now files fault s e = subst (λ (f : SessionFault). Uncreated f files s s) (sym e) (record { done = []; rest = files; whole = refl; created = created_none s })
+uncreated_now files fault s e = subst (λ (f : SessionFault). Uncreated f files s s) (sym e) (created_none s)
 
-pub uncreated_more : (fault : SessionFault) (a b : Made) (s0 s1 : Seen) → Uncreated fault a s0 s1 → Uncreated fault (a ++ b) s0 s1
-uncreated_more NoMemory a b s0 s1 e = record {
-  done = e.done;
-  rest = e.rest ++ b;
-  whole = sym (append_assoc e.done e.rest b) ∙ ap (λ (l : Made). l ++ b) e.whole;
-  created = e.created;
-}
-uncreated_more (World stream) a b s0 s1 e = record {
+-- the first one was not created, of these and more
+pub not_created_more : (stream : Stream) (a b : Made) (s0 s1 : Seen) → NotCreated stream a s0 s1 → NotCreated stream (a ++ b) s0 s1
+not_created_more stream a b s0 s1 e = record {
   done = e.done;
   name = e.name;
   rest = e.rest ++ b;
@@ -51,14 +46,9 @@ uncreated_more (World stream) a b s0 s1 e = record {
   rose = e.rose;
 }
 
-pub uncreated_then : (fault : SessionFault) (a b : Made) (s0 s1 s2 : Seen) → Created a s0 s1 → Uncreated fault b s1 s2 → Uncreated fault (a ++ b) s0 s2
-uncreated_then NoMemory a b s0 s1 s2 u e = record {
-  done = a ++ e.done;
-  rest = e.rest;
-  whole = append_assoc a e.done e.rest ∙ ap (λ (l : Made). a ++ l) e.whole;
-  created = created_then a e.done s0 s1 s2 u e.created;
-}
-uncreated_then (World stream) a b s0 s1 s2 u e = record {
+-- one was not created after some that were
+pub not_created_then : (stream : Stream) (a b : Made) (s0 s1 s2 : Seen) → Created a s0 s1 → NotCreated stream b s1 s2 → NotCreated stream (a ++ b) s0 s2
+not_created_then stream a b s0 s1 s2 u e = record {
   done = a ++ e.done;
   name = e.name;
   rest = e.rest;
@@ -68,7 +58,7 @@ uncreated_then (World stream) a b s0 s1 s2 u e = record {
 }
 
 -- the world failed to create the only file
-pub not_created : (stream : Stream) (name : List ℕ) (s0 s1 : Seen) → Created [] s0 s1 → Rose s0.faults s1.faults → Uncreated (World stream) ((stream, name) ∷ []) s0 s1
+pub not_created : (stream : Stream) (name : List ℕ) (s0 s1 : Seen) → Created [] s0 s1 → Rose s0.faults s1.faults → NotCreated stream ((stream, name) ∷ []) s0 s1
 not_created stream name s0 s1 c rose = record { done = []; name = name; rest = []; whole = refl; created = c; rose = rose }
 
 -- a call that left what was created
@@ -99,7 +89,7 @@ made_right stream [] b h = h
 made_right stream (m ∷ a) b h = inr (made_right stream a b h)
 
 made_left : (stream : Stream) (a b : Made) → IsMade stream a → IsMade stream (a ++ b)
-made_left stream [] b h = elim h []
+made_left stream [] b h = absurd h
 made_left stream (m ∷ a) b (inl e) = inl e
 made_left stream (m ∷ a) b (inr h) = inr (made_left stream a b h)
 

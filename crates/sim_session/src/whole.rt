@@ -1,5 +1,5 @@
 //! A whole run.
-ghost use Rattle.std.specs.Prelude.{◌≡◌, ◌≤◌, ◌<◌, ◌++◌, ◌∷◌, [], ℕ, length, OnOk, IfOk, IfErr, IsTrue, true, is_some};
+ghost use Rattle.std.specs.Prelude.{◌≡◌, ◌≤◌, ◌<◌, ◌++◌, ◌∷◌, [], ℕ, length, OnOk, OnErr, IfOk, IfErr, IsTrue, true, is_some};
 ghost use Rattle.std.specs.List.{list_all};
 ghost use Rattle.std.specs.Option.{option_map, option_copied};
 ghost use Rattle.vs_base.specs.Number.{kept};
@@ -14,7 +14,7 @@ ghost use Rattle.sim_session.specs.Inputs.{port_width, opening_ports, inputs_of}
 ghost use Rattle.sim_session.specs.Values.{is_short};
 ghost use Rattle.sim_session.specs.Pieces.{seen, wrote, Wrote, Ended, IsOpened};
 ghost use Rattle.sim_session.specs.Runs.{setting, after_evals, header_pieces, session_pieces};
-ghost use Rattle.sim_session.specs.Files.{named, files_of, and_made, Created, Uncreated, RunEnded};
+ghost use Rattle.sim_session.specs.Files.{named, files_of, and_made, Created, NotCreated, Uncreated, RunEnded};
 ghost use Rattle.sim_session.specs.Ready.{IsOrdinary, IsReady};
 
 use crate::acts::{run_acts, var_width};
@@ -30,25 +30,22 @@ use sqlite_items::at;
 use std::alloc::{AllocError, Global};
 use vcd_out::{VcdBuf, header};
 use vs_base::{Act, Bits, Text};
-use vs_world::{Stream, World};
+use vs_world::{Fault, Stream, World};
 
 // Creates the file of a stream, where it has a name.
 fn create_file<W: World>(
     world: &mut W,
     stream: Stream,
     name: Option<&Text>,
-) -> Result<(), SessionFault>
+) -> Result<(), Fault>
     requires { IsCreatable (W.made world.old) stream }
     ensures ok { OnOk result (Created (named stream (option_copied name.entry)) (seen (W.written world.old) (W.made world.old) (W.files world.old) (W.faults world.old) (W.absent world.old)) (seen (W.written world.new) (W.made world.new) (W.files world.new) (W.faults world.new) (W.absent world.new))) }
-    ensures err { IfErr result (λ f. Uncreated f (named stream (option_copied name.entry)) (seen (W.written world.old) (W.made world.old) (W.files world.old) (W.faults world.old) (W.absent world.old)) (seen (W.written world.new) (W.made world.new) (W.files world.new) (W.faults world.new) (W.absent world.new))) }
+    ensures err { OnErr result (NotCreated stream (named stream (option_copied name.entry)) (seen (W.written world.old) (W.made world.old) (W.files world.old) (W.faults world.old) (W.absent world.old)) (seen (W.written world.new) (W.made world.new) (W.files world.new) (W.faults world.new) (W.absent world.new))) }
 {
     let Some(name) = name else {
         return Ok(());
     };
-    match world.create(stream, name.as_bytes()) {
-        Ok(()) => Ok(()),
-        Err(_) => Err(SessionFault::World(stream)),
-    }
+    world.create(stream, name.as_bytes())
 }
 
 // Creates the files that are wanted.
@@ -60,8 +57,12 @@ fn create_files<W: World>(world: &mut W, texts: &Texts) -> Result<(), SessionFau
     ensures opened { OnOk result (IsOpened (is_some texts.now.calls) (is_some texts.now.vcd) (W.made world.new)) }
 {
     match create_file(world, Stream::Calls, texts.calls.as_ref()) {
-        Ok(()) => create_file(world, Stream::Vcd, texts.vcd.as_ref()),
-        Err(fault) => Err(fault),
+        Ok(()) => {}
+        Err(_) => return Err(SessionFault::Create(Stream::Calls)),
+    }
+    match create_file(world, Stream::Vcd, texts.vcd.as_ref()) {
+        Ok(()) => Ok(()),
+        Err(_) => Err(SessionFault::Create(Stream::Vcd)),
     }
 }
 
@@ -222,8 +223,9 @@ fn run_session<R: Runner, W: World>(
 /// Runs the acts and writes their texts, each eval's before the next eval begins. `Ok` has the number of evals.
 ///
 /// First all room is taken, then the files that are wanted are created, the call log before the waveform; then the
-/// header of the waveform is written, and for each eval its line, its calls and its changes. `World` comes only where
-/// the world failed at that stream. At a fault the first of these were done, of a piece perhaps a part.
+/// header of the waveform is written, and for each eval its line, its calls and its changes. `Create` and `World` come
+/// only where the world failed at that stream: at `Create` nothing was written, and at `World` all files are there.
+/// At a fault the first of these were done, of a piece perhaps a part.
 pub fn run<R: Runner, W: World>(
     alloc: Global,
     runner: &mut R,
