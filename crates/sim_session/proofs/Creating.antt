@@ -110,3 +110,21 @@ all_open calls vcd s0 s1 c = record {
   calls = λ h. subst (λ (told : Option Made). IsOpen told Calls) (sym c.made) (calls_open calls vcd s0.made h);
   vcd = λ h. subst (λ (told : Option Made). IsOpen told Vcd) (sym c.made) (vcd_open calls vcd s0.made h);
 }
+
+-- ---- the two files, with their names by other terms
+
+pub first_not : (stream : Stream) (o name : Option (List ℕ)) (more : Made) (s0 s1 : Seen) → o ≡ name → NotCreated stream (named stream o) s0 s1 → NotCreated stream (named stream name ++ more) s0 s1
+first_not stream o name more s0 s1 e n =
+    not_created_more stream (named stream name) more s0 s1 (subst (λ (x : Option (List ℕ)). NotCreated stream (named stream x) s0 s1) e n)
+
+pub second_not : (o calls p vcd : Option (List ℕ)) (s0 s1 s2 : Seen) → o ≡ calls → p ≡ vcd → Created (named Calls o) s0 s1 → NotCreated Vcd (named Vcd p) s1 s2
+    → NotCreated Vcd (named Calls calls ++ named Vcd vcd) s0 s2
+second_not o calls p vcd s0 s1 s2 e f c n =
+    not_created_then Vcd (named Calls calls) (named Vcd vcd) s0 s1 s2 (subst (λ (x : Option (List ℕ)). Created (named Calls x) s0 s1) e c)
+    (subst (λ (x : Option (List ℕ)). NotCreated Vcd (named Vcd x) s1 s2) f n)
+
+pub both_created : (o calls p vcd : Option (List ℕ)) (s0 s1 s2 : Seen) → o ≡ calls → p ≡ vcd → Created (named Calls o) s0 s1 → Created (named Vcd p) s1 s2
+    → Created (named Calls calls ++ named Vcd vcd) s0 s2
+both_created o calls p vcd s0 s1 s2 e f c d =
+    created_then (named Calls calls) (named Vcd vcd) s0 s1 s2 (subst (λ (x : Option (List ℕ)). Created (named Calls x) s0 s1) e c)
+    (subst (λ (x : Option (List ℕ)). Created (named Vcd x) s1 s2) f d)

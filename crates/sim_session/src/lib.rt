@@ -50,6 +50,7 @@
 #![tactic(auto)]
 
 mod acts;
+mod create;
 mod eval;
 mod fault;
 mod hex;

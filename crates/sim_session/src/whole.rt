@@ -1,12 +1,12 @@
 //! A whole run.
 ghost use Rattle.std.specs.Prelude.{◌≡◌, ◌≤◌, ◌<◌, ◌++◌, ◌∷◌, [], ℕ, length, OnOk, OnErr, IfOk, IfErr, IsTrue, true, is_some};
 ghost use Rattle.std.specs.List.{list_all};
-ghost use Rattle.std.specs.Option.{option_map, option_copied};
+ghost use Rattle.std.specs.Option.{option_map};
 ghost use Rattle.vs_base.specs.Number.{kept};
 ghost use Rattle.plan_types.specs.Machine.{values_of};
 ghost use Rattle.vs_base.specs.declared.limits.TheConstants.{EVALS};
 ghost use Rattle.vs_world.specs.declared.world.Stream.TheVariants.{Calls as CallStream, Vcd as VcdStream};
-ghost use Rattle.vs_world.specs.Outside.{IsOpen, IsCreatable, Rose};
+ghost use Rattle.vs_world.specs.Outside.{IsOpen, IsCreatable};
 ghost use Rattle.vcd_out.specs.Header as head;
 ghost use Rattle.vcd_out.specs.Buffer.{Serves};
 ghost use Rattle.stimulus.specs.Stimulus.{act_fits, design_ports, evals_in};
@@ -14,10 +14,11 @@ ghost use Rattle.sim_session.specs.Inputs.{port_width, opening_ports, inputs_of}
 ghost use Rattle.sim_session.specs.Values.{is_short};
 ghost use Rattle.sim_session.specs.Pieces.{seen, wrote, Wrote, Ended, IsOpened};
 ghost use Rattle.sim_session.specs.Runs.{setting, after_evals, header_pieces, session_pieces};
-ghost use Rattle.sim_session.specs.Files.{named, files_of, and_made, Created, NotCreated, Uncreated, RunEnded};
+ghost use Rattle.sim_session.specs.Files.{files_of, and_made, RunEnded};
 ghost use Rattle.sim_session.specs.Ready.{IsOrdinary, IsReady};
 
 use crate::acts::{run_acts, var_width};
+use crate::create::create_files;
 use crate::fault::SessionFault;
 use crate::piece::write_piece;
 use crate::session::{Room, Session, Wanted};
@@ -29,42 +30,8 @@ use rtl_pieces::Word;
 use sqlite_items::at;
 use std::alloc::{AllocError, Global};
 use vcd_out::{VcdBuf, header};
-use vs_base::{Act, Bits, Text};
-use vs_world::{Fault, Stream, World};
-
-// Creates the file of a stream, where it has a name.
-fn create_file<W: World>(
-    world: &mut W,
-    stream: Stream,
-    name: Option<&Text>,
-) -> Result<(), Fault>
-    requires { IsCreatable (W.made world.old) stream }
-    ensures ok { OnOk result (Created (named stream (option_copied name.entry)) (seen (W.written world.old) (W.made world.old) (W.files world.old) (W.faults world.old) (W.absent world.old)) (seen (W.written world.new) (W.made world.new) (W.files world.new) (W.faults world.new) (W.absent world.new))) }
-    ensures err { OnErr result (NotCreated stream (named stream (option_copied name.entry)) (seen (W.written world.old) (W.made world.old) (W.files world.old) (W.faults world.old) (W.absent world.old)) (seen (W.written world.new) (W.made world.new) (W.files world.new) (W.faults world.new) (W.absent world.new))) }
-{
-    let Some(name) = name else {
-        return Ok(());
-    };
-    world.create(stream, name.as_bytes())
-}
-
-// Creates the files that are wanted.
-fn create_files<W: World>(world: &mut W, texts: &Texts) -> Result<(), SessionFault>
-    requires calls { IsCreatable (W.made world.old) CallStream }
-    requires vcd { IsCreatable (W.made world.old) VcdStream }
-    ensures ok { OnOk result (Created (files_of texts.now) (seen (W.written world.old) (W.made world.old) (W.files world.old) (W.faults world.old) (W.absent world.old)) (seen (W.written world.new) (W.made world.new) (W.files world.new) (W.faults world.new) (W.absent world.new))) }
-    ensures err { IfErr result (λ f. Uncreated f (files_of texts.now) (seen (W.written world.old) (W.made world.old) (W.files world.old) (W.faults world.old) (W.absent world.old)) (seen (W.written world.new) (W.made world.new) (W.files world.new) (W.faults world.new) (W.absent world.new))) }
-    ensures opened { OnOk result (IsOpened (is_some texts.now.calls) (is_some texts.now.vcd) (W.made world.new)) }
-{
-    match create_file(world, Stream::Calls, texts.calls.as_ref()) {
-        Ok(()) => {}
-        Err(_) => return Err(SessionFault::Create(Stream::Calls)),
-    }
-    match create_file(world, Stream::Vcd, texts.vcd.as_ref()) {
-        Ok(()) => Ok(()),
-        Err(_) => Err(SessionFault::Create(Stream::Vcd)),
-    }
-}
+use vs_base::{Act, Bits};
+use vs_world::{Stream, World};
 
 // Whether each word is a part of a value.
 fn are_short(words: &[Word]) -> bool

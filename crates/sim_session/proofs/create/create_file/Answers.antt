@@ -1,10 +1,9 @@
 use Rattle.std.proofs.Common.{◌≡◌, List, ℕ, sym, ap, subst}
 use Rattle.std.specs.Option.{option_copied}
 use Rattle.std.specs.Prelude.{Some, Option}
-use Rattle.sim_session.specs.Pieces.{seen}
 use Rattle.sim_session.specs.Files.{named, NotCreated}
 use Rattle.sim_session.proofs.Creating.{not_created, same_made}
-use Rattle.sim_session.proofs.whole.create_file.Goals as goal
+use Rattle.sim_session.proofs.create.create_file.Goals as goal
 
 pub returns-in-Err-clause-err : goal.returns-in-Err-clause-err
 returns-in-Err-clause-err g c =
