@@ -58,8 +58,10 @@ not_created_then stream a b s0 s1 s2 u e = record {
 }
 
 -- the world failed to create the only file
-pub not_created : (stream : Stream) (name : List ℕ) (s0 s1 : Seen) → Created [] s0 s1 → Rose s0.faults s1.faults → NotCreated stream ((stream, name) ∷ []) s0 s1
-not_created stream name s0 s1 c rose = record { done = []; name = name; rest = []; whole = refl; created = c; rose = rose }
+pub not_created : (stream : Stream) (o : Option (List ℕ)) (name : List ℕ) (s0 s1 : Seen) → o ≡ Some name → Created [] s0 s1 → Rose s0.faults s1.faults → NotCreated stream (named stream o) s0 s1
+not_created stream o name s0 s1 e c rose =
+    subst (λ (x : Option (List ℕ)). NotCreated stream (named stream x) s0 s1) (sym e)
+    (record { done = []; name = name; rest = []; whole = refl; created = c; rose = rose })
 
 -- a call that left what was created
 pub same_made : (s0 s1 : Seen) → s1.made ≡ s0.made → s1.written ≡ s0.written → s1.files ≡ s0.files → s1.absent ≡ s0.absent → s0.faults ≤ s1.faults → Created [] s0 s1
