@@ -96,15 +96,14 @@ cut_text : (stream : Stream) (done : List Piece) (part more : List ℕ) (rest pi
 cut_text stream done part more rest pieces e s =
     let a : Piece = record { stream = stream; bytes = part } in
     let b : Piece = record { stream = stream; bytes = more } in
-    let c : Piece = record { stream = stream; bytes = part ++ more } in
-    (
-        text_on s (b ∷ rest),
-        sym (flat_map-append (left_on s) (done ++ a ∷ []) (b ∷ rest))
-            ∙ ap (text_on s) (append_assoc done (a ∷ []) (b ∷ rest))
-            ∙ flat_map-append (left_on s) done (a ∷ b ∷ rest)
-            ∙ ap (λ (l : List ℕ). text_on s done ++ l) (cut_in_two stream part more rest s)
-            ∙ sym (flat_map-append (left_on s) done (c ∷ rest))
-            ∙ ap (text_on s) e,
+    let c : Piece = record { stream = stream; bytes = part ++ more } in (
+      text_on s (b ∷ rest),
+      sym (flat_map-append (left_on s) (done ++ a ∷ []) (b ∷ rest))
+          ∙ ap (text_on s) (append_assoc done (a ∷ []) (b ∷ rest))
+          ∙ flat_map-append (left_on s) done (a ∷ b ∷ rest)
+          ∙ ap (λ (l : List ℕ). text_on s done ++ l) (cut_in_two stream part more rest s)
+          ∙ sym (flat_map-append (left_on s) done (c ∷ rest))
+          ∙ ap (text_on s) e,
     )
 
 pub cut_front : (stream : Stream) (done : List Piece) (part more : List ℕ) (rest pieces : List Piece) → done ++ record { stream = stream; bytes = part ++ more } ∷ rest ≡ pieces

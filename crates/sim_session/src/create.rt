@@ -12,11 +12,7 @@ use vs_base::Text;
 use vs_world::{Fault, Stream, World};
 
 // Creates the file of a stream, where it has a name.
-fn create_file<W: World>(
-    world: &mut W,
-    stream: Stream,
-    name: Option<&Text>,
-) -> Result<(), Fault>
+fn create_file<W: World>(world: &mut W, stream: Stream, name: Option<&Text>) -> Result<(), Fault>
     requires { IsCreatable (W.made world.old) stream }
     ensures ok { OnOk result (Created (named stream (option_copied name.entry)) (seen (W.written world.old) (W.made world.old) (W.files world.old) (W.faults world.old) (W.absent world.old)) (seen (W.written world.new) (W.made world.new) (W.files world.new) (W.faults world.new) (W.absent world.new))) }
     ensures err { OnErr result (NotCreated stream (named stream (option_copied name.entry)) (seen (W.written world.old) (W.made world.old) (W.files world.old) (W.faults world.old) (W.absent world.old)) (seen (W.written world.new) (W.made world.new) (W.files world.new) (W.faults world.new) (W.absent world.new))) }

@@ -63,5 +63,5 @@ mod values;
 mod whole;
 
 pub use fault::SessionFault;
-pub use whole::run;
 pub use texts::Texts;
+pub use whole::run;

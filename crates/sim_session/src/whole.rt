@@ -57,11 +57,7 @@ fn opening_port(vars: &[Var], port: Port) -> Bits
     Bits::new(var_width(at(vars, port.var as usize)), 0)
 }
 
-fn opening_ports(
-    alloc: Global,
-    vars: &[Var],
-    ports: &[Port],
-) -> Result<Vec<Bits>, AllocError>
+fn opening_ports(alloc: Global, vars: &[Var], ports: &[Port]) -> Result<Vec<Bits>, AllocError>
     ensures { IfOk result (λ v. v.items ≡ opening_ports vars.now ports.now) }
 {
     let mut values = Vec::with_capacity(alloc, ports.len())?;
@@ -88,11 +84,7 @@ fn opening_values<R: Runner>(
 }
 
 // What lasts, before the first eval.
-fn open<R: Runner>(
-    alloc: Global,
-    runner: &R,
-    built: &Built,
-) -> Result<Session, SessionFault>
+fn open<R: Runner>(alloc: Global, runner: &R, built: &Built) -> Result<Session, SessionFault>
     requires same { R.built runner.now ≡ built.now }
     requires words { length (R.machine runner.now).outside.words ≡ length built.now.layout.words.items }
     ensures ready { IfOk result (λ s. IsReady s built.now (R.machine runner.now)) }
@@ -103,7 +95,11 @@ fn open<R: Runner>(
     if !is_ordinary(built.layout.words.as_slice()) {
         return Err(SessionFault::NoMemory);
     }
-    let Ok(set) = opening_ports(alloc, built.design.vars.as_slice(), built.design.ports.as_slice()) else {
+    let Ok(set) = opening_ports(
+        alloc,
+        built.design.vars.as_slice(),
+        built.design.ports.as_slice(),
+    ) else {
         return Err(SessionFault::NoMemory);
     };
     let Ok(before) = opening_values(alloc, runner, built) else {
