@@ -117,7 +117,7 @@ struct Logic {
     imports: Items<Import>,
 }
 
-fn logic(alloc: Global) -> Result<Logic, NoMemory>
+fn logic_of(alloc: Global) -> Result<Logic, NoMemory>
     ensures procs { IfOk result (λ logic. code_count logic.procs ≡ 1) }
     ensures imports { IfOk result (λ logic. length logic.imports ≡ 1) }
 {
@@ -130,7 +130,7 @@ fn design(alloc: Global) -> Result<Design, NoMemory>
     ensures procs { IfOk result (λ d. code_count d.procs ≡ 1) }
     ensures imports { IfOk result (λ d. length d.imports ≡ 1) }
 {
-    let logic = logic(alloc)?;
+    let logic = logic_of(alloc)?;
     let vars = vars(alloc)?;
     let ports = ports(alloc)?;
     let Ok(scopes) = scopes(alloc) else {
@@ -198,7 +198,11 @@ fn codes(alloc: Global) -> Result<Items<Code>, NoMemory>
     list(alloc, [code])
 }
 
-fn plan<const N: usize>(alloc: Global, nodes: [Node; N], costs: [u32; N]) -> Result<ValidPlan, NoMemory>
+fn plan<const N: usize>(
+    alloc: Global,
+    nodes: [Node; N],
+    costs: [u32; N],
+) -> Result<ValidPlan, NoMemory>
     ensures { IfOk result (λ plan. plan.nodes ≡ nodes) }
 {
     let costs = list(alloc, costs)?;
@@ -218,7 +222,7 @@ struct Parts {
     clocked: ValidPlan,
 }
 
-fn parts(alloc: Global) -> Result<Parts, NoMemory>
+fn parts_of(alloc: Global) -> Result<Parts, NoMemory>
     ensures settle { IfOk result (λ parts. parts.settle.nodes ≡ Node.Comb 0 ∷ []) }
     ensures clocked { IfOk result (λ parts. parts.clocked.nodes ≡ []) }
 {
@@ -251,7 +255,7 @@ struct Course {
     parts: Parts,
 }
 
-fn course(alloc: Global) -> Result<Course, NoMemory>
+fn course_of(alloc: Global) -> Result<Course, NoMemory>
     ensures words { IfOk result (λ course. length course.layout.words.items ≡ 3) }
     ensures within { IfOk result (λ course. AllWithin 3 1 course.codes) }
     ensures many { IfOk result (λ course. length course.codes ≡ 1) }
@@ -260,7 +264,7 @@ fn course(alloc: Global) -> Result<Course, NoMemory>
 {
     let layout = layout(alloc)?;
     let codes = codes(alloc)?;
-    let parts = parts(alloc)?;
+    let parts = parts_of(alloc)?;
     Ok(Course {
         layout,
         codes,
@@ -271,7 +275,7 @@ fn course(alloc: Global) -> Result<Course, NoMemory>
 /// The model.
 pub fn model(alloc: Global) -> Result<Built, NoMemory> {
     let design = design(alloc)?;
-    let course = course(alloc)?;
+    let course = course_of(alloc)?;
     let facts = facts(alloc)?;
     Ok(Built {
         design,
