@@ -1,7 +1,5 @@
 //! A model with an input `a` and an output `y`, each of 8 bits, and one process: y = echo(a).
-ghost use Rattle.std.specs.Prelude.{◌≡◌, ◌≤◌, [], ◌∷◌, true, length, IfOk};
-ghost use Rattle.std.specs.List.{list_all};
-ghost use Rattle.plan_graph.specs.GraphLaws.{rises};
+ghost use Rattle.std.specs.Prelude.{◌≡◌, ◌≤◌, [], ◌∷◌, length, IfOk};
 ghost use Rattle.task_eval.specs.Soundness.{IsSound, IsWithin};
 ghost use Rattle.plan_types.specs.Coded.{AllWithin, code_count};
 
@@ -173,12 +171,15 @@ fn layout(alloc: Global) -> Result<Layout, NoMemory>
     Ok(Layout { words })
 }
 
-fn code<const N: usize>(alloc: Global, ops: [Op; N]) -> Result<Code, NoMemory>
-    requires sound { IsSound 1 ops }
-    requires within { IsWithin 3 1 ops }
+fn code(alloc: Global, ops: &[Op]) -> Result<Code, NoMemory>
+    requires sound { IsSound 1 ops.now }
+    requires within { IsWithin 3 1 ops.now }
     ensures { IfOk result (λ code. IsWithin 3 1 code.ops) }
 {
-    Ok(Code::new(list(alloc, ops)?, 1))
+    match Items::from_slice(alloc, ops) {
+        Ok(ops) => Ok(Code::new(ops, 1)),
+        Err(_) => Err(NoMemory),
+    }
 }
 
 fn codes(alloc: Global) -> Result<Items<Code>, NoMemory>
@@ -194,23 +195,23 @@ fn codes(alloc: Global) -> Result<Items<Code>, NoMemory>
         },
         Op::Store { word: 2, width: 8 },
     ];
-    let code = code(alloc, ops)?;
+    let code = code(alloc, &ops)?;
     list(alloc, [code])
 }
 
-fn plan<const N: usize>(
-    alloc: Global,
-    nodes: [Node; N],
-    costs: [u32; N],
-) -> Result<ValidPlan, NoMemory>
-    ensures { IfOk result (λ plan. plan.nodes ≡ nodes) }
+// The plan of nodes with their costs, and no edge.
+fn plan(alloc: Global, nodes: &[Node], costs: &[u32]) -> Result<ValidPlan, NoMemory>
+    requires { length costs.now ≡ length nodes.now }
+    ensures { IfOk result (λ plan. plan.nodes ≡ nodes.now) }
 {
-    let costs = list(alloc, costs)?;
+    let Ok(nodes) = Items::from_slice(alloc, nodes) else {
+        return Err(NoMemory);
+    };
+    let Ok(costs) = Items::from_slice(alloc, costs) else {
+        return Err(NoMemory);
+    };
     match Graph::new(costs, Items::new(alloc)) {
-        Some(graph) => {
-            let nodes = list(alloc, nodes)?;
-            ValidPlan::one_task(alloc, nodes, graph)
-        }
+        Some(graph) => ValidPlan::one_task(alloc, nodes, graph),
         None => Err(NoMemory),
     }
 }
@@ -226,8 +227,8 @@ fn parts_of(alloc: Global) -> Result<Parts, NoMemory>
     ensures settle { IfOk result (λ parts. parts.settle.nodes ≡ Node.Comb 0 ∷ []) }
     ensures clocked { IfOk result (λ parts. parts.clocked.nodes ≡ []) }
 {
-    let settle = plan(alloc, [Node::Comb(0)], [21])?;
-    let clocked = plan(alloc, [], [])?;
+    let settle = plan(alloc, &[Node::Comb(0)], &[21])?;
+    let clocked = plan(alloc, &[], &[])?;
     Ok(Parts { settle, clocked })
 }
 
