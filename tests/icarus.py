@@ -6,9 +6,9 @@ of the library written again here.
 """
 import os
 import re
+import resource
 import shutil
 import subprocess
-import time
 
 TOOLS = ("iverilog", "vvp", "iverilog-vpi", "cc")
 
@@ -288,7 +288,7 @@ def make_module(folder):
 
 
 def run_one(folder, module, source, stimulus, top, want_wave, limit=120):
-    """What Icarus Verilog writes, its waveform, and the seconds of its run alone."""
+    """What Icarus Verilog writes, its waveform, and the processor seconds of its run alone."""
     shutil.copy(module, os.path.join(folder, "zero.vpi"))
     with open(os.path.join(folder, "source.sv"), "w") as file:
         file.write(source)
@@ -311,9 +311,10 @@ def run_one(folder, module, source, stimulus, top, want_wave, limit=120):
     made = subprocess.run(["iverilog", "-g2012", "-s", "the_bench", "-o", "run", "design.sv", "bench.sv"], cwd=folder, capture_output=True, text=True)
     if made.returncode:
         raise Skip("Icarus Verilog does not take it: " + (made.stderr.splitlines() or ["?"])[0][:150])
-    began = time.monotonic()
+    before = resource.getrusage(resource.RUSAGE_CHILDREN)
     done = subprocess.run(["vvp", "-n", "-M.", "-mzero", "run"], cwd=folder, capture_output=True, text=True, timeout=limit)
-    seconds = time.monotonic() - began
+    after = resource.getrusage(resource.RUSAGE_CHILDREN)
+    seconds = after.ru_utime + after.ru_stime - before.ru_utime - before.ru_stime
     if done.returncode:
         raise Skip("Icarus Verilog does not run it: " + (done.stderr.splitlines() or ["?"])[0][:150])
     out = "".join(line + "\n" for line in done.stdout.splitlines() if not line.startswith("VCD info"))
