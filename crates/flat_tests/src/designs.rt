@@ -327,6 +327,9 @@ fn design_of(alloc: Global, text: &[u8]) -> Result<Design, Fail> {
     }
     let mut names = Names::new(alloc)?;
     let tokens = lex(alloc, 0, text, &mut names)?;
+    if tokens.len() > MOST {
+        return Err(Fail::from("long"));
+    }
     let tree = parse(alloc, tokens.as_slice(), &names)?;
     design_in(alloc, &tree, &names)
 }
