@@ -368,15 +368,15 @@ fn model(alloc: Global, deemed: bool) -> Result<Built, NoMemory>
 {
     let design = design(alloc)?;
     let parts = parts(alloc)?;
-    let Coded { codes, deemed, ids } = facts(alloc, deemed)?;
+    let facts = facts(alloc, deemed)?;
     Ok(Built {
         design,
         layout: parts.layout,
-        codes,
+        codes: facts.codes,
         settle: parts.settle,
         clocked: parts.clocked,
-        deemed,
-        ids,
+        deemed: facts.deemed,
+        ids: facts.ids,
     })
 }
 
