@@ -1,5 +1,6 @@
 use Rattle.std.proofs.Common.{take}
-use Rattle.model_build.specs.Touching.{Each, IsTouched}
+use Rattle.task_code.specs.Compiled.{Each}
+use Rattle.model_build.specs.Touching.{IsTouched}
 use Rattle.model_build.proofs.touched.all_touched.Given as goal
 
 abbrev pub invariant-loop-proc : goal.invariant-loop-proc
