@@ -80,24 +80,24 @@ meet_from w (r ∷ some) others one two = by_cases (λ rest. meet_from w some ot
 
 writer_writes : (test : ℕ → ℕ → Bool) (number more b p : ℕ) → first_writer test number more b ≡ Some p → test p b ≡ true
 writer_writes test number zero b p is = absurd (let e : None ≡ Some p = is in cc)
-writer_writes test number (suc more) b p is = by_test (cases_Bool (test number b))
+writer_writes test number (suc more) b p is = by_test (λ rest. writer_writes test (suc number) more b p rest) (cases_Bool (test number b))
   where
-    by_test : (test number b ≡ true) ⊎ (test number b ≡ false) → test p b ≡ true
-    by_test (inl e) =
+    by_test : (first_writer test (suc number) more b ≡ Some p → test p b ≡ true) → (test number b ≡ true) ⊎ (test number b ≡ false) → test p b ≡ true
+    by_test others (inl e) =
         let here : Some number ≡ Some p = sym (ap (λ (t : Bool). cond t (Some number) (first_writer test (suc number) more b)) e) ∙ is in
         let same : number ≡ p = cc in
         ap (λ (n : ℕ). test n b) (sym same) ∙ e
-    by_test (inr e) = writer_writes test (suc number) more b p (sym (ap (λ (t : Bool). cond t (Some number) (first_writer test (suc number) more b)) e) ∙ is)
+    by_test others (inr e) = others (sym (ap (λ (t : Bool). cond t (Some number) (first_writer test (suc number) more b)) e) ∙ is)
 
 writer_some : (test : ℕ → ℕ → Bool) (number more b p : ℕ) → number ≤ p → p < number + more → test p b ≡ true → (q : ℕ) × (first_writer test number more b ≡ Some q)
 writer_some test number zero b p low high is = absurd (omega arith)
-writer_some test number (suc more) b p low high is = by_test (cases_Bool (test number b)) (cases_eq number p)
+writer_some test number (suc more) b p low high is = by_test (λ above. writer_some test (suc number) more b p above (omega arith) is) (cases_Bool (test number b)) (cases_eq number p)
   where
-    by_test : (test number b ≡ true) ⊎ (test number b ≡ false) → (number ≡ p) ⊎ (number ≡ p → ⊥) → (q : ℕ) × (first_writer test number (suc more) b ≡ Some q)
-    by_test (inl e) other = (number, ap (λ (t : Bool). cond t (Some number) (first_writer test (suc number) more b)) e)
-    by_test (inr e) (inl same) = absurd (let one : test number b ≡ true = ap (λ (n : ℕ). test n b) same ∙ is in let two : true ≡ false = sym one ∙ e in cc)
-    by_test (inr e) (inr other) =
-        let rest = writer_some test (suc number) more b p (omega arith) (omega arith) is in
+    by_test : (suc number ≤ p → (q : ℕ) × (first_writer test (suc number) more b ≡ Some q)) → (test number b ≡ true) ⊎ (test number b ≡ false) → (number ≡ p) ⊎ (number ≡ p → ⊥) → (q : ℕ) × (first_writer test number (suc more) b ≡ Some q)
+    by_test others (inl e) other = (number, ap (λ (t : Bool). cond t (Some number) (first_writer test (suc number) more b)) e)
+    by_test others (inr e) (inl same) = absurd (let one : test number b ≡ true = ap (λ (n : ℕ). test n b) same ∙ is in let two : true ≡ false = sym one ∙ e in cc)
+    by_test others (inr e) (inr other) =
+        let rest = others (omega arith) in
         (rest.0, ap (λ (t : Bool). cond t (Some number) (first_writer test (suc number) more b)) e ∙ rest.1)
 
 get_past : (procs : List Proc) (p : ℕ) → length procs ≤ p → slice_get procs p ≡ None
@@ -131,11 +131,11 @@ rises_lower low (n ∷ more) rises = (let from = rises.0 in omega arith, rises.1
 
 numbers_rise : (passes : Bool → Bool) (at : ℕ) (marks : List Bool) → Rises at (numbers_from at passes marks)
 numbers_rise passes at [] = tt
-numbers_rise passes at (m ∷ more) = either (passes m)
+numbers_rise passes at (m ∷ more) = either (numbers_rise passes (suc at) more) (passes m)
   where
-    either : (t : Bool) → Rises at (cond t (at ∷ numbers_from (suc at) passes more) (numbers_from (suc at) passes more))
-    either true = (omega arith, numbers_rise passes (suc at) more)
-    either false = rises_lower at (numbers_from (suc at) passes more) (numbers_rise passes (suc at) more)
+    either : Rises (suc at) (numbers_from (suc at) passes more) → (t : Bool) → Rises at (cond t (at ∷ numbers_from (suc at) passes more) (numbers_from (suc at) passes more))
+    either rest true = (omega arith, rest)
+    either rest false = rises_lower at (numbers_from (suc at) passes more) rest
 
 module _ (design : Design) (one : OneDriver design) where
   is_writer : (p b : ℕ) → writes (line_in design) design.procs p b ≡ true → writer_of (line_in design) design.procs b ≡ Some p
@@ -147,11 +147,11 @@ module _ (design : Design) (one : OneDriver design) where
 
 below_from : (passes : ℕ → Bool) (n b : ℕ) → b < n → passes b ≡ true → some_below passes n ≡ true
 below_from passes zero b less is = absurd (omega arith)
-below_from passes (suc n) b less is = by_eq (cases_eq b n)
+below_from passes (suc n) b less is = by_eq (λ below. below_from passes n b below is) (cases_eq b n)
   where
-    by_eq : (b ≡ n) ⊎ (b ≡ n → ⊥) → (passes n || some_below passes n) ≡ true
-    by_eq (inl same) = or_left (passes n) (some_below passes n) (ap passes (sym same) ∙ is)
-    by_eq (inr other) = or_right (passes n) (some_below passes n) (below_from passes n b (let apart : b ≡ n → ⊥ = other in omega arith) is)
+    by_eq : (b < n → some_below passes n ≡ true) → (b ≡ n) ⊎ (b ≡ n → ⊥) → (passes n || some_below passes n) ≡ true
+    by_eq others (inl same) = or_left (passes n) (some_below passes n) (ap passes (sym same) ∙ is)
+    by_eq others (inr other) = or_right (passes n) (some_below passes n) (others (let apart : b ≡ n → ⊥ = other in omega arith))
 
 below_some : (passes : ℕ → Bool) (n : ℕ) → some_below passes n ≡ true → (b : ℕ) × (b < n) × (passes b ≡ true)
 below_some passes zero is = absurd (let e : false ≡ true = is in cc)

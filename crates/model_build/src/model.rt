@@ -131,7 +131,7 @@ fn lay_out(alloc: Global, design: &Design) -> Result<Laid, BuildFault>
     ensures refused { IfErr result (LayFault design.now) }
 {
     let layout = words_of(alloc, design)?;
-    let ordered = ordered(alloc, design, &layout)?;
+    let ordered = in_order(alloc, design, &layout)?;
     let codes = codes_of(alloc, design, &layout)?;
     Ok(Laid {
         layout,
@@ -148,7 +148,7 @@ struct Ordered {
     order: Vec<u32>,
 }
 
-fn ordered(alloc: Global, design: &Design, layout: &Layout) -> Result<Ordered, BuildFault>
+fn in_order(alloc: Global, design: &Design, layout: &Layout) -> Result<Ordered, BuildFault>
     requires procs { length design.now.procs < 2 ^ 32 }
     requires one_driver { OneDriver design.now }
     requires words { IsCut design.now layout.now.words.items }
