@@ -140,7 +140,7 @@ numbers_rise passes at (m ∷ more) = either (numbers_rise passes (suc at) more)
 module _ (design : Design) (one : OneDriver design) where
   is_writer : (p b : ℕ) → writes (line_in design) design.procs p b ≡ true → writer_of (line_in design) design.procs b ≡ Some p
   is_writer p b is =
-      let some = writer_some (writes (line_in design) design.procs) 0 (length design.procs) b p (omega arith) (is_process (line_in design) design.procs p b is) is in
+      let some = writer_some (writes (line_in design) design.procs) 0 (length design.procs) b p (omega arith) (let less = is_process (line_in design) design.procs p b is in omega arith) is in
       some.1 ∙ ap Some (one.single b some.0 p (writer_writes (writes (line_in design) design.procs) 0 (length design.procs) b some.0 some.1) is)
 
 -- ---- some number below a bound
@@ -259,13 +259,13 @@ module _ (design : Design) (cut_words : List Word) (cut : IsCut design cut_words
   one_each low [] [] rises each i j d less within = absurd (omega arith)
   one_each low [] (t ∷ ts) rises each i j d less within = absurd each
   one_each low (p ∷ ps) [] rises each i j d less within = absurd each
-  one_each low (p ∷ ps) (t ∷ ts) rises each =
+  one_each low (p ∷ ps) (t ∷ ts) rises each i j d less within =
       AllPairs-cons (λ a b. meet_somewhere a.writes b.writes ≡ false) t ts
       (all_apart p t each.0 (suc p) (omega arith) ps ts rises.1 each.1)
-      (one_each (suc p) ps ts rises.1 each.1)
+      (one_each (suc p) ps ts rises.1 each.1) i j d less within
 
-each_at : {R : List ℕ → ℕ → Touched → Type 0} (x y : List ℕ) → x ≡ y → (ps : List ℕ) (ts : List Touched) → Each (R x) ps ts → Each (R y) ps ts
-each_at {R} x y e ps ts each = subst (λ (z : List ℕ). Each (R z) ps ts) e each
+each_at : (R : List ℕ → ℕ → Touched → Type 0) (x y : List ℕ) → x ≡ y → (ps : List ℕ) (ts : List Touched) → Each (R x) ps ts → Each (R y) ps ts
+each_at R x y e ps ts each = subst (λ (z : List ℕ). Each (R z) ps ts) e each
 
 -- the edges by words are those by bits
 pub edges_same : (design : Design) (cut_words : List Word) (combs : List ℕ) (ts : List Touched) → IsCut design cut_words → OneDriver design → combs ≡ combs_of design.procs
@@ -273,7 +273,7 @@ pub edges_same : (design : Design) (cut_words : List Word) (combs : List ℕ) (t
 unfolding read_edges
 edges_same design cut_words combs ts cut one are each =
     let is : places_of 0 cut_words ≡ places_with (line_in design) design.procs = ap (places_of 0) cut.words_are ∙ places_in (line_in design) design.procs in
-    let all = each_at {R = λ places. IsTouched (line_in design) design.procs places} (places_of 0 cut_words) (places_with (line_in design) design.procs) is combs ts each in
+    let all = each_at (λ places. IsTouched (line_in design) design.procs places) (places_of 0 cut_words) (places_with (line_in design) design.procs) is combs ts each in
     from_same design cut_words cut one 0 combs ts all combs ts all
     ∙ ap (λ (ps : List ℕ). edges_from (feeds (line_in design) design.procs) 0 ps ps) are
 
@@ -282,7 +282,7 @@ pub one_writer : (design : Design) (cut_words : List Word) (combs : List ℕ) (t
     → Each (IsTouched (line_in design) design.procs (places_of 0 cut_words)) combs ts → OneWriter ts
 one_writer design cut_words combs ts cut one are each =
     let is : places_of 0 cut_words ≡ places_with (line_in design) design.procs = ap (places_of 0) cut.words_are ∙ places_in (line_in design) design.procs in
-    let all = each_at {R = λ places. IsTouched (line_in design) design.procs places} (places_of 0 cut_words) (places_with (line_in design) design.procs) is combs ts each in
+    let all = each_at (λ places. IsTouched (line_in design) design.procs places) (places_of 0 cut_words) (places_with (line_in design) design.procs) is combs ts each in
     one_each design cut_words cut one 0 combs ts (subst (Rises 0) (sym are) (numbers_rise not 0 (clocked_of design.procs))) all
 
 pub each_length : {A B : Type 0} (R : A → B → Type 0) (xs : List A) (ys : List B) → Each R xs ys → length ys ≡ length xs
