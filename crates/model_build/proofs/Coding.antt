@@ -87,7 +87,7 @@ clocked_before at (p ∷ procs) k less = either (clocked_before (suc at) procs) 
     either others true e zero less =
         let none : at - at ≡ 0 = omega arith in
         let whole = sum_by-cons (λ (q : Proc). cond (coded.is_clocked q) 1 0) p procs in
-        let here : cond (coded.is_clocked p) 1 0 ≡ 1 = ap (λ (t : Bool). cond t 1 0) (of_kind p.kind e) in
+        let here : cond {A = ℕ} (coded.is_clocked p) 1 0 ≡ 1 = ap (λ (t : Bool). cond {A = ℕ} t 1 0) (of_kind p.kind e) in
         let taken : count_by coded.is_clocked (take (at - at) (p ∷ procs)) ≡ 0 = ap (λ (m : ℕ). count_by coded.is_clocked (take m (p ∷ procs))) none in
         record { low = omega arith; fewer = omega arith }
     either others true e (suc k) less = one_more at p procs (slice_index (numbers_from (suc at) (λ c. c) (map is_clocked procs)) k) (others k (omega arith))
