@@ -1,4 +1,4 @@
-use Rattle.std.proofs.Common.{◌≡◌, List, length, sym, ap, ◌∙◌}
+use Rattle.std.proofs.Common.{List, length, sym, ap, ◌∙◌}
 use Rattle.rtl_ir.specs.declared.design.Import.{Import}
 use Rattle.proc_calls.specs.Calls.{is_called}
 use Rattle.model_build.specs.declared.import.ImportUse.{ImportUse}
