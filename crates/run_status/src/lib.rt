@@ -12,12 +12,17 @@
 //! ```text
 //! refuse(world, b"d.sv", b": not built yet")    // vsim: d.sv: not built yet    Refused, or WorldFault
 //! refuse_at(world, b"d.sv", at, b"unknown macro ", b"W")    // vsim: d.sv:1:9: unknown macro W
+//! refuse_listed(world, files, b"loop of ", b"2", places)     // vsim: loop of 2: d.sv:1:33 d.sv:1:47
 //! cannot_read(world, b"none.sv")                // vsim: cannot read none.sv    WorldFault
+//! cannot_write(world, Stream::Vcd)              // vsim: cannot write vcd    WorldFault
 //! ```
 #![tactic(auto)]
 
 mod line;
 mod status;
 
-pub use line::{cannot_read, cannot_write_out, out_of_memory, refuse, refuse_at};
+pub use line::{
+    cannot_create, cannot_read, cannot_write, cannot_write_out, file_name, out_of_memory, refuse,
+    refuse_about, refuse_at, refuse_listed,
+};
 pub use status::Status;

@@ -1,14 +1,15 @@
 // The one line on standard error.
-ghost use Rattle.std.specs.Prelude.{◌≡◌, ◌≤◌, ◌++◌, [], codes, decimal, OnOk, OnErr};
+ghost use Rattle.std.specs.Prelude.{◌≡◌, ◌≤◌, ◌++◌, [], get_or, codes, decimal, OnOk, OnErr};
 ghost use Rattle.std.specs.Option.{option_map};
 ghost use Rattle.vs_world.specs.Outside.{appended, IsOpen, Rose};
 ghost use Rattle.vs_world.specs.declared.world.Stream.TheVariants.{Errors as ErrorStream};
 ghost use Rattle.run_status.specs.Written.{Said, OnlyWrites, joined};
 ghost use Rattle.run_status.specs.Answer.{error_line, placed_text, Tells, Refuses};
+ghost use Rattle.run_status.specs.Lines.{stream_name, not_created, not_written, listed_place, listed_places, listed_text};
 
 use crate::status::Status;
 use itoa::Buffer;
-use vs_base::Origin;
+use vs_base::{Origin, Text};
 use vs_world::{Stream, World, write_all};
 
 const START: &[u8] = b"vsim: ";
@@ -62,6 +63,32 @@ pub fn refuse<W: World>(world: &mut W, start: &[u8], end: &[u8]) -> Status
     }
 }
 
+// Writes one line with a name in it on standard error, or as much of it as the world takes; says whether it is whole.
+fn tell_about<W: World>(world: &mut W, start: &[u8], name: &[u8], end: &[u8]) -> Result<(), ()>
+    ensures ok { OnOk result (W.written world.new ≡ option_map (appended ErrorStream (error_line (start.now ++ name.now ++ end.now))) (W.written world.old)) }
+    ensures err { OnErr result (Said ErrorStream (error_line (start.now ++ name.now ++ end.now)) (W.written world.old) (W.written world.new)) }
+    ensures cause { OnErr result (Rose (W.faults world.old) (W.faults world.new)) }
+    ensures rest { OnlyWrites (W.faults world.old) (W.faults world.new) (W.absent world.old) (W.absent world.new) (W.files world.old) (W.files world.new) (W.made world.old) (W.made world.new) }
+{
+    match write_pieces(world, Stream::Errors, &[START, start, name, end, END]) {
+        Ok(()) => Ok(()),
+        Err(()) => Err(()),
+    }
+}
+
+/// Refuses a command by the line `vsim: `, these three texts and a line feed on standard error.
+///
+/// Gives `Refused` where the line is whole, and `WorldFault` where the write failed.
+pub fn refuse_about<W: World>(world: &mut W, start: &[u8], name: &[u8], end: &[u8]) -> Status
+    ensures told { Refuses result (start.now ++ name.now ++ end.now) (W.written world.old) (W.written world.new) (W.faults world.old) (W.faults world.new) }
+    ensures rest { OnlyWrites (W.faults world.old) (W.faults world.new) (W.absent world.old) (W.absent world.new) (W.files world.old) (W.files world.new) (W.made world.old) (W.made world.new) }
+{
+    match tell_about(world, start, name, end) {
+        Ok(()) => Status::Refused,
+        Err(()) => Status::WorldFault,
+    }
+}
+
 // Writes one line with a place on standard error, or as much of it as the world takes; says whether it is whole.
 fn tell_at<W: World>(
     world: &mut W,
@@ -109,6 +136,110 @@ pub fn refuse_at<W: World>(
     }
 }
 
+/// The name of the file of this number, empty where there is none.
+pub fn file_name(files: &[Text], number: usize) -> &[u8]
+    ensures { result.now ≡ get_or files.now number [] }
+{
+    match files.get(number) {
+        Some(name) => name.as_bytes(),
+        None => &[],
+    }
+}
+
+// Writes a place with a blank before it.
+fn write_place<W: World>(world: &mut W, file: &[u8], at: Origin) -> Result<(), ()>
+    ensures ok { OnOk result (W.written world.new ≡ option_map (appended ErrorStream (listed_place file.now at)) (W.written world.old)) }
+    ensures err { OnErr result (Said ErrorStream (listed_place file.now at) (W.written world.old) (W.written world.new)) }
+    ensures cause { OnErr result (Rose (W.faults world.old) (W.faults world.new)) }
+    ensures rest { OnlyWrites (W.faults world.old) (W.faults world.new) (W.absent world.old) (W.absent world.new) (W.files world.old) (W.files world.new) (W.made world.old) (W.made world.new) }
+{
+    let mut line = Buffer::new();
+    let mut col = Buffer::new();
+    let line = line.format(at.line).as_bytes();
+    let col = col.format(at.col).as_bytes();
+    let pieces = [BLANK, file, COLON, line, COLON, col];
+    match write_pieces(world, Stream::Errors, &pieces) {
+        Ok(()) => Ok(()),
+        Err(()) => Err(()),
+    }
+}
+
+// Writes places, a blank before each.
+fn write_places<W: World>(world: &mut W, files: &[Text], places: &[Origin]) -> Result<(), ()>
+    ensures ok { OnOk result (W.written world.new ≡ option_map (appended ErrorStream (listed_places files.now places.now)) (W.written world.old)) }
+    ensures err { OnErr result (Said ErrorStream (listed_places files.now places.now) (W.written world.old) (W.written world.new)) }
+    ensures cause { OnErr result (Rose (W.faults world.old) (W.faults world.new)) }
+    ensures rest { OnlyWrites (W.faults world.old) (W.faults world.new) (W.absent world.old) (W.absent world.new) (W.files world.old) (W.files world.new) (W.made world.old) (W.made world.new) }
+{
+    for place in places {
+        match write_place(world, file_name(files, place.file as usize), *place) {
+            Ok(()) => {}
+            Err(()) => return Err(()),
+        }
+    }
+    Ok(())
+}
+
+// Writes places and the end of the line.
+fn end_listed<W: World>(world: &mut W, files: &[Text], places: &[Origin]) -> Result<(), ()>
+    ensures ok { OnOk result (W.written world.new ≡ option_map (appended ErrorStream (listed_places files.now places.now ++ codes "\n")) (W.written world.old)) }
+    ensures err { OnErr result (Said ErrorStream (listed_places files.now places.now ++ codes "\n") (W.written world.old) (W.written world.new)) }
+    ensures cause { OnErr result (Rose (W.faults world.old) (W.faults world.new)) }
+    ensures rest { OnlyWrites (W.faults world.old) (W.faults world.new) (W.absent world.old) (W.absent world.new) (W.files world.old) (W.files world.new) (W.made world.old) (W.made world.new) }
+{
+    match write_places(world, files, places) {
+        Ok(()) => {}
+        Err(()) => return Err(()),
+    }
+    match write_pieces(world, Stream::Errors, &[END]) {
+        Ok(()) => Ok(()),
+        Err(()) => Err(()),
+    }
+}
+
+// Writes one line that ends in places on standard error, or as much of it as the world takes; says whether it is whole.
+fn tell_listed<W: World>(
+    world: &mut W,
+    files: &[Text],
+    start: &[u8],
+    end: &[u8],
+    places: &[Origin],
+) -> Result<(), ()>
+    ensures ok { OnOk result (W.written world.new ≡ option_map (appended ErrorStream (error_line (listed_text files.now (start.now ++ end.now) places.now))) (W.written world.old)) }
+    ensures err { OnErr result (Said ErrorStream (error_line (listed_text files.now (start.now ++ end.now) places.now)) (W.written world.old) (W.written world.new)) }
+    ensures cause { OnErr result (Rose (W.faults world.old) (W.faults world.new)) }
+    ensures rest { OnlyWrites (W.faults world.old) (W.faults world.new) (W.absent world.old) (W.absent world.new) (W.files world.old) (W.files world.new) (W.made world.old) (W.made world.new) }
+{
+    match write_pieces(world, Stream::Errors, &[START, start, end, COLON]) {
+        Ok(()) => {}
+        Err(()) => return Err(()),
+    }
+    match end_listed(world, files, places) {
+        Ok(()) => Ok(()),
+        Err(()) => Err(()),
+    }
+}
+
+/// Refuses a command by the line `vsim: `, these two texts, a colon and for each place ` FILE:LINE:COL`, where a place has
+/// the number of its file; a line feed ends it.
+///
+/// Gives `Refused` where the line is whole, and `WorldFault` where the write failed.
+pub fn refuse_listed<W: World>(
+    world: &mut W,
+    files: &[Text],
+    start: &[u8],
+    end: &[u8],
+    places: &[Origin],
+) -> Status
+    ensures told { Refuses result (listed_text files.now (start.now ++ end.now) places.now) (W.written world.old) (W.written world.new) (W.faults world.old) (W.faults world.new) }
+    ensures rest { OnlyWrites (W.faults world.old) (W.faults world.new) (W.absent world.old) (W.absent world.new) (W.files world.old) (W.files world.new) (W.made world.old) (W.made world.new) }
+{
+    match tell_listed(world, files, start, end, places) {
+        Ok(()) => Status::Refused,
+        Err(()) => Status::WorldFault,
+    }
+}
+
 /// Tries the line `cannot read NAME` after a failing read, and gives `WorldFault`.
 pub fn cannot_read<W: World>(world: &mut W, name: &[u8]) -> Status
     ensures status { result ≡ Status.WorldFault }
@@ -116,6 +247,43 @@ pub fn cannot_read<W: World>(world: &mut W, name: &[u8]) -> Status
     ensures rest { OnlyWrites (W.faults world.old) (W.faults world.new) (W.absent world.old) (W.absent world.new) (W.files world.old) (W.files world.new) (W.made world.old) (W.made world.new) }
 {
     match tell(world, b"cannot read ", name) {
+        Ok(()) => Status::WorldFault,
+        Err(()) => Status::WorldFault,
+    }
+}
+
+/// Tries the line `cannot create NAME` after a failing creation, and gives `WorldFault`.
+pub fn cannot_create<W: World>(world: &mut W, name: &[u8]) -> Status
+    ensures status { result ≡ Status.WorldFault }
+    ensures told { Tells (not_created name.now) (W.written world.old) (W.written world.new) (W.faults world.old) (W.faults world.new) }
+    ensures rest { OnlyWrites (W.faults world.old) (W.faults world.new) (W.absent world.old) (W.absent world.new) (W.files world.old) (W.files world.new) (W.made world.old) (W.made world.new) }
+{
+    match tell(world, b"cannot create ", name) {
+        Ok(()) => Status::WorldFault,
+        Err(()) => Status::WorldFault,
+    }
+}
+
+// What a stream is called.
+fn name_of(stream: Stream) -> &'static [u8]
+    ensures { result.now ≡ stream_name stream }
+{
+    match stream {
+        Stream::Out => b"out",
+        Stream::Errors => b"errors",
+        Stream::Calls => b"calls",
+        Stream::Vcd => b"vcd",
+    }
+}
+
+/// Tries the line `cannot write STREAM` after a failing write to that stream, and gives `WorldFault`. STREAM is `out`,
+/// `calls` or `vcd`.
+pub fn cannot_write<W: World>(world: &mut W, stream: Stream) -> Status
+    ensures status { result ≡ Status.WorldFault }
+    ensures told { Tells (not_written stream) (W.written world.old) (W.written world.new) (W.faults world.old) (W.faults world.new) }
+    ensures rest { OnlyWrites (W.faults world.old) (W.faults world.new) (W.absent world.old) (W.absent world.new) (W.files world.old) (W.files world.new) (W.made world.old) (W.made world.new) }
+{
+    match tell(world, b"cannot write ", name_of(stream)) {
         Ok(()) => Status::WorldFault,
         Err(()) => Status::WorldFault,
     }

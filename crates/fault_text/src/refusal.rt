@@ -1,0 +1,346 @@
+// The refusal by each fault, in the order of the manual (docs/FORMATS.md).
+ghost use Rattle.std.specs.Prelude.{◌≡◌, ◌<◌, ◌++◌, length, IfSome, slice_get};
+ghost use Rattle.run_status.specs.Answer.{Refuses};
+ghost use Rattle.run_status.specs.Written.{OnlyWrites};
+ghost use Rattle.sv_tree.specs.Tokens.{AreNamed};
+ghost use Rattle.sv_pp.specs.Answer.{IsSpelled};
+ghost use Rattle.fault_text.specs.FaultText as text;
+ghost use Rattle.fault_text.specs.Refusal.{RefusesLexing, RefusesPreprocessing, RefusesParsing, RefusesDesign, RefusesStimulus};
+
+use itoa::Buffer;
+use parse_expr::ParseFault;
+use run_status::{
+    Status, file_name, out_of_memory, refuse, refuse_about, refuse_at, refuse_listed,
+};
+use stimulus::StimFault;
+use sv_lex::LexFault;
+use sv_names::DesignFault;
+use sv_pp::{PpFault, without_backquote};
+use sv_tree::{NameId, Names, Token};
+use vs_base::{Kind, Origin, Text};
+use vs_world::World;
+
+const MANY_TOKENS: &[u8] = b"too many tokens";
+
+/// Refuses words that are no command.
+pub fn refuse_words<W: World>(world: &mut W) -> Status
+    ensures told { Refuses result text.usage (W.written world.old) (W.written world.new) (W.faults world.old) (W.faults world.new) }
+    ensures rest { OnlyWrites (W.faults world.old) (W.faults world.new) (W.absent world.old) (W.absent world.new) (W.files world.old) (W.files world.new) (W.made world.old) (W.made world.new) }
+{
+    refuse(world, b"usage", b"")
+}
+
+/// Refuses a file that is too long.
+pub fn refuse_length<W: World>(world: &mut W, file: &[u8]) -> Status
+    ensures told { Refuses result (text.too_long file.now) (W.written world.old) (W.written world.new) (W.faults world.old) (W.faults world.new) }
+    ensures rest { OnlyWrites (W.faults world.old) (W.faults world.new) (W.absent world.old) (W.absent world.new) (W.files world.old) (W.files world.new) (W.made world.old) (W.made world.new) }
+{
+    refuse(world, file, b": longer than 4194304 bytes")
+}
+
+// Refuses by a text about a place.
+fn refuse_place<W: World>(
+    world: &mut W,
+    files: &[Text],
+    at: Origin,
+    start: &[u8],
+    end: &[u8],
+) -> Status
+    ensures told { Refuses result (text.at_place files.now at (start.now ++ end.now)) (W.written world.old) (W.written world.new) (W.faults world.old) (W.faults world.new) }
+    ensures rest { OnlyWrites (W.faults world.old) (W.faults world.new) (W.absent world.old) (W.absent world.new) (W.files world.old) (W.files world.new) (W.made world.old) (W.made world.new) }
+{
+    refuse_at(world, file_name(files, at.file as usize), at, start, end)
+}
+
+/// Refuses by a fault of lexing.
+pub fn refuse_lexing<W: World>(world: &mut W, files: &[Text], fault: LexFault) -> Status
+    ensures told { RefusesLexing result files.now fault (W.written world.old) (W.written world.new) (W.faults world.old) (W.faults world.new) }
+    ensures rest { OnlyWrites (W.faults world.old) (W.faults world.new) (W.absent world.old) (W.absent world.new) (W.files world.old) (W.files world.new) (W.made world.old) (W.made world.new) }
+{
+    match fault {
+        LexFault::BadChar(at) => refuse_place(world, files, at, b"bad character", b""),
+        LexFault::OpenComment(at) => refuse_place(world, files, at, b"open comment", b""),
+        LexFault::OpenString(at) => refuse_place(world, files, at, b"open string", b""),
+        LexFault::TooMany => refuse(world, MANY_TOKENS, b""),
+        LexFault::NoMemory => out_of_memory(world),
+    }
+}
+
+// Refuses by a text with a directive's name.
+fn refuse_directive<W: World>(
+    world: &mut W,
+    files: &[Text],
+    at: Origin,
+    start: &[u8],
+    names: &Names,
+    name: NameId,
+) -> Status
+    requires known { name.0 < length names.now }
+    ensures told { Refuses result (text.at_place files.now at (start.now ++ text.unquoted names.now name.0)) (W.written world.old) (W.written world.new) (W.faults world.old) (W.faults world.new) }
+    ensures rest { OnlyWrites (W.faults world.old) (W.faults world.new) (W.absent world.old) (W.absent world.new) (W.files world.old) (W.files world.new) (W.made world.old) (W.made world.new) }
+{
+    refuse_place(world, files, at, start, without_backquote(names.text(name)))
+}
+
+/// Refuses by a fault of preprocessing.
+pub fn refuse_preprocessing<W: World>(
+    world: &mut W,
+    files: &[Text],
+    names: &Names,
+    fault: PpFault,
+) -> Status
+    requires spelled { IsSpelled names.now fault }
+    ensures told { RefusesPreprocessing result files.now names.now fault (W.written world.old) (W.written world.new) (W.faults world.old) (W.faults world.new) }
+    ensures rest { OnlyWrites (W.faults world.old) (W.faults world.new) (W.absent world.old) (W.absent world.new) (W.files world.old) (W.files world.new) (W.made world.old) (W.made world.new) }
+{
+    match fault {
+        PpFault::UnknownMacro(at, name) => {
+            refuse_directive(world, files, at, b"unknown macro ", names, name)
+        }
+        PpFault::MacroDepth(at) => refuse_place(world, files, at, b"macros too deep", b""),
+        PpFault::OpenIf(at) => refuse_place(world, files, at, b"open ifdef", b""),
+        PpFault::StrayElse(at) => refuse_place(world, files, at, b"stray else", b""),
+        PpFault::Directive(at, name) => {
+            refuse_directive(world, files, at, b"directive ", names, name)
+        }
+        PpFault::TooMany => refuse(world, MANY_TOKENS, b""),
+        PpFault::NoMemory => out_of_memory(world),
+    }
+}
+
+/// Refuses a number whose spelling is none: the token of this number, from 0.
+pub fn refuse_number<W: World>(world: &mut W, files: &[Text], tokens: &[Token], k: u32) -> Status
+    requires within { k < length tokens.now }
+    ensures told { Refuses result (text.bad_number files.now tokens.now k) (W.written world.old) (W.written world.new) (W.faults world.old) (W.faults world.new) }
+    ensures rest { OnlyWrites (W.faults world.old) (W.faults world.new) (W.absent world.old) (W.absent world.new) (W.files world.old) (W.files world.new) (W.made world.old) (W.made world.new) }
+{
+    refuse_place(world, files, tokens[k as usize].at, b"bad number", b"")
+}
+
+// Refuses by a text about a token, or about the end where there is no such token.
+fn refuse_token<W: World>(
+    world: &mut W,
+    files: &[Text],
+    token: Option<Token>,
+    start: &[u8],
+    end: &[u8],
+    past: &[u8],
+) -> Status
+    ensures told { Refuses result (text.of_token files.now token (start.now ++ end.now) past.now) (W.written world.old) (W.written world.new) (W.faults world.old) (W.faults world.new) }
+    ensures rest { OnlyWrites (W.faults world.old) (W.faults world.new) (W.absent world.old) (W.absent world.new) (W.files world.old) (W.files world.new) (W.made world.old) (W.made world.new) }
+{
+    match token {
+        Some(token) => refuse_place(world, files, token.at, start, end),
+        None => refuse(world, past, b""),
+    }
+}
+
+// The token of a number, where there is one.
+fn token_at(tokens: &[Token], k: u32) -> Option<Token>
+    ensures { result ≡ slice_get tokens.now k }
+{
+    tokens.get(k as usize).copied()
+}
+
+// The spelling of a token, empty where there is none.
+fn spelling_of<'a>(names: &'a Names, token: Option<Token>) -> &'a [u8]
+    requires { IfSome token (λ t. t.name.0 < length names.now) }
+    ensures { result.now ≡ text.spelled names.now token }
+{
+    match token {
+        Some(token) => names.text(token.name),
+        None => &[],
+    }
+}
+
+/// Refuses by a fault of parsing.
+pub fn refuse_parsing<W: World>(
+    world: &mut W,
+    files: &[Text],
+    names: &Names,
+    tokens: &[Token],
+    fault: ParseFault,
+) -> Status
+    requires named { AreNamed names.now tokens.now }
+    ensures told { RefusesParsing result files.now names.now tokens.now fault (W.written world.old) (W.written world.new) (W.faults world.old) (W.faults world.new) }
+    ensures rest { OnlyWrites (W.faults world.old) (W.faults world.new) (W.absent world.old) (W.absent world.new) (W.files world.old) (W.files world.new) (W.made world.old) (W.made world.new) }
+{
+    match fault {
+        ParseFault::Construct(k) => {
+            let token = token_at(tokens, k);
+            let spelling = spelling_of(names, token);
+            refuse_token(world, files, token, b"not in this subset: ", spelling, b"")
+        }
+        ParseFault::Syntax(k) => {
+            let token = token_at(tokens, k);
+            refuse_token(
+                world,
+                files,
+                token,
+                b"syntax error",
+                b"",
+                b"syntax error at end of input",
+            )
+        }
+        ParseFault::TooDeep(k) => {
+            let token = token_at(tokens, k);
+            refuse_token(
+                world,
+                files,
+                token,
+                b"nested too deep",
+                b"",
+                b"nested too deep",
+            )
+        }
+        ParseFault::NoMemory => out_of_memory(world),
+    }
+}
+
+// The spelling of a name, empty where the table has no such name.
+fn text_of(names: &Names, name: NameId) -> &[u8]
+    ensures { result.now ≡ text.text_of names.now name.0 }
+{
+    if (name.0 as usize) < names.len() {
+        return names.text(name);
+    }
+    &[]
+}
+
+// What there may be too many of.
+fn kind_text(kind: Kind) -> &'static [u8]
+    ensures { result.now ≡ text.kind_text kind }
+{
+    match kind {
+        Kind::Tokens => b"tokens",
+        Kind::Instances => b"instances",
+        Kind::Processes => b"processes",
+        Kind::Terms => b"terms",
+        Kind::Calls => b"calls",
+        Kind::Words => b"words",
+        Kind::Nodes => b"nodes",
+        Kind::Edges => b"edges",
+    }
+}
+
+/// Refuses a design that has more of something than it may have.
+pub fn refuse_too_many<W: World>(world: &mut W, kind: Kind) -> Status
+    ensures told { Refuses result (text.too_many kind) (W.written world.old) (W.written world.new) (W.faults world.old) (W.faults world.new) }
+    ensures rest { OnlyWrites (W.faults world.old) (W.faults world.new) (W.absent world.old) (W.absent world.new) (W.files world.old) (W.files world.new) (W.made world.old) (W.made world.new) }
+{
+    refuse(world, b"too many ", kind_text(kind))
+}
+
+/// Refuses by a fault of the design.
+pub fn refuse_design<W: World>(
+    world: &mut W,
+    files: &[Text],
+    names: &Names,
+    fault: DesignFault,
+) -> Status
+    ensures told { RefusesDesign result files.now names.now fault (W.written world.old) (W.written world.new) (W.faults world.old) (W.faults world.new) }
+    ensures rest { OnlyWrites (W.faults world.old) (W.faults world.new) (W.absent world.old) (W.absent world.new) (W.files world.old) (W.files world.new) (W.made world.old) (W.made world.new) }
+{
+    match fault {
+        DesignFault::NoTop => refuse(world, b"no top module", b""),
+        DesignFault::ManyTops => refuse(world, b"many top modules", b""),
+        DesignFault::Duplicate(at, name) => {
+            refuse_place(world, files, at, b"duplicate ", text_of(names, name))
+        }
+        DesignFault::UnknownModule(at, name) => {
+            refuse_place(world, files, at, b"unknown module ", text_of(names, name))
+        }
+        DesignFault::SelfInstance(at) => refuse_place(world, files, at, b"instance of itself", b""),
+        DesignFault::UnknownPort(at) => refuse_place(world, files, at, b"unknown port", b""),
+        DesignFault::UnknownParam(at) => refuse_place(world, files, at, b"unknown parameter", b""),
+        DesignFault::UnknownName(at, name) => {
+            refuse_place(world, files, at, b"unknown name ", text_of(names, name))
+        }
+        DesignFault::WrongUse(at, name) => {
+            refuse_place(world, files, at, b"wrong use of ", text_of(names, name))
+        }
+        DesignFault::WrongAssign(at) => refuse_place(world, files, at, b"wrong assignment", b""),
+        DesignFault::NotConstant(at) => refuse_place(world, files, at, b"not constant", b""),
+        DesignFault::BadImport(at) => refuse_place(world, files, at, b"bad import", b""),
+        DesignFault::TooWide(at) => refuse_place(world, files, at, b"too wide", b""),
+        DesignFault::BadRange(at) => refuse_place(world, files, at, b"bad range", b""),
+        DesignFault::BadEvent(at, name) => {
+            refuse_place(world, files, at, b"bad event ", text_of(names, name))
+        }
+        DesignFault::DerivedClock(at, name) => {
+            refuse_place(world, files, at, b"derived clock ", text_of(names, name))
+        }
+        DesignFault::LoopTurns(at) => refuse_place(world, files, at, b"too many loop turns", b""),
+        DesignFault::TooMany(kind) => refuse_too_many(world, kind),
+        DesignFault::NoMemory => out_of_memory(world),
+    }
+}
+
+/// Refuses a bit that two processes write: its name, and the places of the first two.
+pub fn refuse_drivers<W: World>(
+    world: &mut W,
+    files: &[Text],
+    bit: &[u8],
+    one: Origin,
+    two: Origin,
+) -> Status
+    ensures told { Refuses result (text.two_drivers files.now bit.now one two) (W.written world.old) (W.written world.new) (W.faults world.old) (W.faults world.new) }
+    ensures rest { OnlyWrites (W.faults world.old) (W.faults world.new) (W.absent world.old) (W.absent world.new) (W.files world.old) (W.files world.new) (W.made world.old) (W.made world.new) }
+{
+    refuse_listed(world, files, b"two drivers of ", bit, &[one, two])
+}
+
+/// Refuses an import of a name that the host does not have.
+pub fn refuse_unknown_import<W: World>(world: &mut W, name: &[u8]) -> Status
+    ensures told { Refuses result (text.unknown_import name.now) (W.written world.old) (W.written world.new) (W.faults world.old) (W.faults world.new) }
+    ensures rest { OnlyWrites (W.faults world.old) (W.faults world.new) (W.absent world.old) (W.absent world.new) (W.files world.old) (W.files world.new) (W.made world.old) (W.made world.new) }
+{
+    refuse_about(world, b"import ", name, b" is unknown")
+}
+
+/// Refuses an import that is deemed safe and whose answers are not by its arguments alone.
+pub fn refuse_not_by_arguments<W: World>(world: &mut W, name: &[u8]) -> Status
+    ensures told { Refuses result (text.not_by_arguments name.now) (W.written world.old) (W.written world.new) (W.faults world.old) (W.faults world.new) }
+    ensures rest { OnlyWrites (W.faults world.old) (W.faults world.new) (W.absent world.old) (W.absent world.new) (W.files world.old) (W.files world.new) (W.made world.old) (W.made world.new) }
+{
+    refuse_about(
+        world,
+        b"import ",
+        name,
+        b" does not answer by arguments alone",
+    )
+}
+
+/// Refuses processes that wait for each other: their places.
+pub fn refuse_loop<W: World>(world: &mut W, files: &[Text], places: &[Origin]) -> Status
+    ensures told { Refuses result (text.loop_text files.now places.now) (W.written world.old) (W.written world.new) (W.faults world.old) (W.faults world.new) }
+    ensures rest { OnlyWrites (W.faults world.old) (W.faults world.new) (W.absent world.old) (W.absent world.new) (W.files world.old) (W.files world.new) (W.made world.old) (W.made world.new) }
+{
+    let mut digits = Buffer::new();
+    let count = digits.format(places.len()).as_bytes();
+    refuse_listed(world, files, b"loop of ", count, places)
+}
+
+// Refuses by a text about a line of the stimulus.
+fn refuse_line<W: World>(world: &mut W, line: u32, end: &[u8]) -> Status
+    ensures told { Refuses result (text.of_line line end.now) (W.written world.old) (W.written world.new) (W.faults world.old) (W.faults world.new) }
+    ensures rest { OnlyWrites (W.faults world.old) (W.faults world.new) (W.absent world.old) (W.absent world.new) (W.files world.old) (W.files world.new) (W.made world.old) (W.made world.new) }
+{
+    let mut digits = Buffer::new();
+    let line = digits.format(line).as_bytes();
+    refuse_about(world, b"stimulus line ", line, end)
+}
+
+/// Refuses by a fault of the stimulus.
+pub fn refuse_stimulus<W: World>(world: &mut W, fault: StimFault) -> Status
+    ensures told { RefusesStimulus result fault (W.written world.old) (W.written world.new) (W.faults world.old) (W.faults world.new) }
+    ensures rest { OnlyWrites (W.faults world.old) (W.faults world.new) (W.absent world.old) (W.absent world.new) (W.files world.old) (W.files world.new) (W.made world.old) (W.made world.new) }
+{
+    match fault {
+        StimFault::BadLine(line) => refuse_line(world, line, b": bad line"),
+        StimFault::UnknownInput(line) => refuse_line(world, line, b": unknown input"),
+        StimFault::ValueTooWide(line) => refuse_line(world, line, b": value too wide"),
+        StimFault::TooManyEvals(line) => refuse_line(world, line, b": too many evals"),
+        StimFault::NoMemory => out_of_memory(world),
+    }
+}
