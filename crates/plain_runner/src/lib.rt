@@ -37,7 +37,7 @@
 //! kept calls alone, and keeps that memory for the next eval.
 //!
 //! ```text
-//! let mut runner = PlainRunner::open(alloc, built, host)?;   // q = 5
+//! let mut runner = PlainRunner::open(alloc, &built, host)?;  // q = 5
 //! runner.eval(&[Bits::new(1, 1)])?;                          // clk rises: q = 6
 //! runner.eval(&[Bits::new(1, 1)])?;                          // no edge: q = 6
 //! runner.word(4)                                             // 6

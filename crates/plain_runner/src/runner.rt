@@ -18,27 +18,27 @@ use vs_base::Bits;
 
 /// Runs a model on one thread, node by node in serial order.
 #[derive(Drop)]
-pub struct PlainRunner<H> {
-    built: Built,
+pub struct PlainRunner<'a, H> {
+    built: &'a Built,
     tables: Tables,
     frame: Frame,
     live: Live<Called<H>>,
     past: Past,
-    ghost tabled: { AreTables built tables },
-    ghost room: { deepest built.codes ≤ frame.room },
-    ghost words: { length live.words.items ≡ length built.layout.words.items },
-    ghost last: { length past.last.items ≡ length built.layout.words.items },
-    ghost fired: { length past.fired.items ≡ length built.design.procs },
+    ghost tabled: { AreTables built.now tables },
+    ghost room: { deepest built.now.codes ≤ frame.room },
+    ghost words: { length live.words.items ≡ length built.now.layout.words.items },
+    ghost last: { length past.last.items ≡ length built.now.layout.words.items },
+    ghost fired: { length past.fired.items ≡ length built.now.design.procs },
 }
 
-impl<H: Host> PlainRunner<H> {
+impl<'a, H: Host> PlainRunner<'a, H> {
     /// A runner of a model on a host, before its first eval. `NoMemory`: there was none left.
-    pub fn open(alloc: Global, built: Built, host: H) -> Result<PlainRunner<H>, NoMemory>
-        ensures built { IfOk result (λ runner. ⟦<PlainRunner<H> as Runner>⟧.built runner ≡ built) }
-        ensures machine { IfOk result (λ runner. ⟦<PlainRunner<H> as Runner>⟧.machine runner ≡ opening built (H.fixed host) (H.state host)) }
+    pub fn open(alloc: Global, built: &'a Built, host: H) -> Result<PlainRunner<'a, H>, NoMemory>
+        ensures built { IfOk result (λ runner. ⟦<PlainRunner<'a, H> as Runner>⟧.built runner ≡ built.now) }
+        ensures machine { IfOk result (λ runner. ⟦<PlainRunner<'a, H> as Runner>⟧.machine runner ≡ opening built.now (H.fixed host) (H.state host)) }
     {
-        let tables = tables_of(alloc, &built)?;
-        let Room { frame, words, past } = memory(alloc, &built)?;
+        let tables = tables_of(alloc, built)?;
+        let Room { frame, words, past } = memory(alloc, built)?;
         let calls = Vec::new(alloc);
         Ok(PlainRunner {
             built,
@@ -54,16 +54,16 @@ impl<H: Host> PlainRunner<H> {
     }
 }
 
-impl<H: Host> Runner for PlainRunner<H> {
+impl<'a, H: Host> Runner for PlainRunner<'a, H> {
     type Host = H;
 
-    ghost built = { λ r. r.built };
+    ghost built = { λ r. r.built.now };
 
-    ghost machine = { λ r. machine_of (env_of (H.fixed r.live.host.host) r.built.ids r.tables.widths.items r.built.deemed) r.past.last.items (seen_of r.live.words.items (H.state r.live.host.host) r.live.calls.items) };
+    ghost machine = { λ r. machine_of (env_of (H.fixed r.live.host.host) r.built.now.ids r.tables.widths.items r.built.now.deemed) r.past.last.items (seen_of r.live.words.items (H.state r.live.host.host) r.live.calls.items) };
 
     fn eval(&mut self, inputs: &[Bits]) -> Result<(), RunFault> {
         evaluate(
-            &self.built,
+            self.built,
             &self.tables,
             &mut self.frame,
             &mut self.live,

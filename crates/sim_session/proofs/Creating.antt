@@ -8,9 +8,9 @@ use Rattle.vs_world.specs.declared.world.Stream.TheVariants.{Out, Errors, Calls,
 use Rattle.vs_world.specs.Outside.{Made, IsMade, IsOpen, IsCreatable, Rose}
 use Rattle.vs_world.specs.CountLaws.{rose_between}
 use Rattle.sim_session.specs.declared.fault.SessionFault.{SessionFault}
-use Rattle.sim_session.specs.declared.fault.SessionFault.TheVariants.{NoMemory, World}
+use Rattle.sim_session.specs.declared.fault.SessionFault.TheVariants.{NoMemory}
 use Rattle.sim_session.specs.Pieces.{Piece, Seen, Wrote, Ended, IsOpened}
-use Rattle.sim_session.specs.Files.{named, and_made, Created, NotCreated, Partly, Uncreated, Broken, RunEnded}
+use Rattle.sim_session.specs.Files.{named, and_made, Created, NotCreated, Uncreated}
 
 made_none : (told : Option Made) → told ≡ option_map (and_made []) told
 made_none None = refl
@@ -33,16 +33,11 @@ created_then a b s0 s1 s2 u v = record {
 }
 
 pub uncreated_now : (files : Made) (fault : SessionFault) (s : Seen) → fault ≡ NoMemory → Uncreated fault files s s
-uncreated_now files fault s e = subst (λ (f : SessionFault). Uncreated f files s s) (sym e) (record { done = []; rest = files; whole = refl; created = created_none s })
+uncreated_now files fault s e = subst (λ (f : SessionFault). Uncreated f files s s) (sym e) (created_none s)
 
-pub uncreated_more : (fault : SessionFault) (a b : Made) (s0 s1 : Seen) → Uncreated fault a s0 s1 → Uncreated fault (a ++ b) s0 s1
-uncreated_more NoMemory a b s0 s1 e = record {
-  done = e.done;
-  rest = e.rest ++ b;
-  whole = sym (append_assoc e.done e.rest b) ∙ ap (λ (l : Made). l ++ b) e.whole;
-  created = e.created;
-}
-uncreated_more (World stream) a b s0 s1 e = record {
+-- the first one was not created, of these and more
+pub not_created_more : (stream : Stream) (a b : Made) (s0 s1 : Seen) → NotCreated stream a s0 s1 → NotCreated stream (a ++ b) s0 s1
+not_created_more stream a b s0 s1 e = record {
   done = e.done;
   name = e.name;
   rest = e.rest ++ b;
@@ -51,14 +46,9 @@ uncreated_more (World stream) a b s0 s1 e = record {
   rose = e.rose;
 }
 
-pub uncreated_then : (fault : SessionFault) (a b : Made) (s0 s1 s2 : Seen) → Created a s0 s1 → Uncreated fault b s1 s2 → Uncreated fault (a ++ b) s0 s2
-uncreated_then NoMemory a b s0 s1 s2 u e = record {
-  done = a ++ e.done;
-  rest = e.rest;
-  whole = append_assoc a e.done e.rest ∙ ap (λ (l : Made). a ++ l) e.whole;
-  created = created_then a e.done s0 s1 s2 u e.created;
-}
-uncreated_then (World stream) a b s0 s1 s2 u e = record {
+-- one was not created after some that were
+pub not_created_then : (stream : Stream) (a b : Made) (s0 s1 s2 : Seen) → Created a s0 s1 → NotCreated stream b s1 s2 → NotCreated stream (a ++ b) s0 s2
+not_created_then stream a b s0 s1 s2 u e = record {
   done = a ++ e.done;
   name = e.name;
   rest = e.rest;
@@ -68,8 +58,10 @@ uncreated_then (World stream) a b s0 s1 s2 u e = record {
 }
 
 -- the world failed to create the only file
-pub not_created : (stream : Stream) (name : List ℕ) (s0 s1 : Seen) → Created [] s0 s1 → Rose s0.faults s1.faults → Uncreated (World stream) ((stream, name) ∷ []) s0 s1
-not_created stream name s0 s1 c rose = record { done = []; name = name; rest = []; whole = refl; created = c; rose = rose }
+pub not_created : (stream : Stream) (o : Option (List ℕ)) (name : List ℕ) (s0 s1 : Seen) → o ≡ Some name → Created [] s0 s1 → Rose s0.faults s1.faults → NotCreated stream (named stream o) s0 s1
+not_created stream o name s0 s1 e c rose =
+    subst (λ (x : Option (List ℕ)). NotCreated stream (named stream x) s0 s1) (sym e)
+    (record { done = []; name = name; rest = []; whole = refl; created = c; rose = rose })
 
 -- a call that left what was created
 pub same_made : (s0 s1 : Seen) → s1.made ≡ s0.made → s1.written ≡ s0.written → s1.files ≡ s0.files → s1.absent ≡ s0.absent → s0.faults ≤ s1.faults → Created [] s0 s1
@@ -99,7 +91,7 @@ made_right stream [] b h = h
 made_right stream (m ∷ a) b h = inr (made_right stream a b h)
 
 made_left : (stream : Stream) (a b : Made) → IsMade stream a → IsMade stream (a ++ b)
-made_left stream [] b h = elim h []
+made_left stream [] b h = absurd h
 made_left stream (m ∷ a) b (inl e) = inl e
 made_left stream (m ∷ a) b (inr h) = inr (made_left stream a b h)
 
@@ -120,3 +112,21 @@ all_open calls vcd s0 s1 c = record {
   calls = λ h. subst (λ (told : Option Made). IsOpen told Calls) (sym c.made) (calls_open calls vcd s0.made h);
   vcd = λ h. subst (λ (told : Option Made). IsOpen told Vcd) (sym c.made) (vcd_open calls vcd s0.made h);
 }
+
+-- ---- the two files, with their names by other terms
+
+pub first_not : (stream : Stream) (o name : Option (List ℕ)) (more : Made) (s0 s1 : Seen) → o ≡ name → NotCreated stream (named stream o) s0 s1 → NotCreated stream (named stream name ++ more) s0 s1
+first_not stream o name more s0 s1 e n =
+    not_created_more stream (named stream name) more s0 s1 (subst (λ (x : Option (List ℕ)). NotCreated stream (named stream x) s0 s1) e n)
+
+pub second_not : (o calls p vcd : Option (List ℕ)) (s0 s1 s2 : Seen) → o ≡ calls → p ≡ vcd → Created (named Calls o) s0 s1 → NotCreated Vcd (named Vcd p) s1 s2
+    → NotCreated Vcd (named Calls calls ++ named Vcd vcd) s0 s2
+second_not o calls p vcd s0 s1 s2 e f c n =
+    not_created_then Vcd (named Calls calls) (named Vcd vcd) s0 s1 s2 (subst (λ (x : Option (List ℕ)). Created (named Calls x) s0 s1) e c)
+    (subst (λ (x : Option (List ℕ)). NotCreated Vcd (named Vcd x) s1 s2) f n)
+
+pub both_created : (o calls p vcd : Option (List ℕ)) (s0 s1 s2 : Seen) → o ≡ calls → p ≡ vcd → Created (named Calls o) s0 s1 → Created (named Vcd p) s1 s2
+    → Created (named Calls calls ++ named Vcd vcd) s0 s2
+both_created o calls p vcd s0 s1 s2 e f c d =
+    created_then (named Calls calls) (named Vcd vcd) s0 s1 s2 (subst (λ (x : Option (List ℕ)). Created (named Calls x) s0 s1) e c)
+    (subst (λ (x : Option (List ℕ)). Created (named Vcd x) s1 s2) f d)

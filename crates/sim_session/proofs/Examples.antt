@@ -4,7 +4,7 @@ use Rattle.std.specs.Prelude.{codes}
 use Rattle.vs_base.specs.Number.{Number, kept}
 use Rattle.vs_base.specs.declared.types.ValueType.{ValueType}
 use Rattle.vs_base.specs.declared.act.Act.TheVariants.{Set, Eval, Clock}
-use Rattle.vs_world.specs.declared.world.Stream.TheVariants.{Out, Calls, Vcd}
+use Rattle.vs_world.specs.declared.world.Stream.TheVariants.{Out, Errors, Calls, Vcd}
 use Rattle.vs_world.specs.Outside.{Written}
 use Rattle.rtl_ir.specs.declared.design.Var.{Var}
 use Rattle.rtl_ir.specs.declared.design.Port.{Port}
@@ -15,6 +15,7 @@ use Rattle.sim_session.specs.Inputs.{inputs_from, opening_ports}
 use Rattle.sim_session.specs.Values.{put_words}
 use Rattle.sim_session.specs.Pieces.{piece, wrote}
 use Rattle.sim_session.specs.Files.{named}
+use Rattle.sim_session.specs.Streams.{streamed, has_no_errors}
 
 abbrev bits : ℕ → ℕ → Number
 bits width value = record { width = width; value = value }
@@ -91,6 +92,16 @@ nothing = record { out = []; errors = []; calls = []; vcd = [] }
 by_streams : wrote (piece Out (codes "0 y=1\n") ∷ piece Calls (codes "0 f()\n") ∷ piece Out (codes "1 y=0\n") ∷ []) nothing
     ≡ record { out = codes "0 y=1\n1 y=0\n"; errors = []; calls = codes "0 f()\n"; vcd = [] }
 by_streams = refl
+
+texts_of_streams : streamed (piece Out (codes "0 y=1\n") ∷ piece Calls (codes "0 f()\n") ∷ piece Out (codes "1 y=0\n") ∷ [])
+    ≡ record { out = codes "0 y=1\n1 y=0\n"; calls = codes "0 f()\n"; vcd = [] }
+texts_of_streams = refl
+
+without_errors : has_no_errors (piece Out (codes "0 y=1\n") ∷ piece Vcd (codes "#1\n") ∷ []) ≡ true
+without_errors = refl
+
+with_an_error : has_no_errors (piece Out (codes "0 y=1\n") ∷ piece Errors (codes "vsim: loop\n") ∷ []) ≡ false
+with_an_error = refl
 
 no_name : named Vcd None ≡ []
 no_name = refl

@@ -1,11 +1,11 @@
 -- A whole run out of its parts.
-use Rattle.std.proofs.Common.{◌≡◌, ◌≤◌, ℕ, ◌++◌, ◌+◌, List, refl, sym, ap, ◌∙◌, subst, arith}
+use Rattle.std.proofs.Common.{◌≡◌, ◌≤◌, ℕ, ◌++◌, ◌+◌, List, [], refl, sym, ap, ◌∙◌, subst, arith}
 use Rattle.std.specs.Option.{option_map}
 use Rattle.vs_base.specs.Number.{Number}
 use Rattle.vs_world.specs.Outside.{Made}
 use Rattle.plan_types.specs.Machine.{Machine}
 use Rattle.sim_session.specs.declared.fault.SessionFault.{SessionFault}
-use Rattle.sim_session.specs.declared.fault.SessionFault.TheVariants.{NoMemory, World}
+use Rattle.sim_session.specs.declared.fault.SessionFault.TheVariants.{NoMemory, Create, World}
 use Rattle.sim_session.specs.Pieces.{Piece, Seen, wrote, Wrote, Ended}
 use Rattle.sim_session.specs.PieceLaws.{wrote_then, ended_more, ended_then}
 use Rattle.sim_session.specs.Runs.{Setting, run_pieces, Ran, header_pieces, session_pieces}
@@ -47,11 +47,13 @@ pub rest_wrote : (pieces : List Piece) (a b : Seen) → Wrote pieces a b → Res
 rest_wrote pieces a b w = record { later = w.later; absent = w.absent; files = w.files }
 
 pub rest_uncreated : (fault : SessionFault) (files : Made) (a b : Seen) → Uncreated fault files a b → Rest a b
-rest_uncreated NoMemory files a b e = rest_created e.done a b e.created
-rest_uncreated (World stream) files a b e = rest_created e.done a b e.created
+rest_uncreated NoMemory files a b e = rest_created [] a b e
+rest_uncreated (Create stream) files a b e = rest_created e.done a b e.created
+rest_uncreated (World stream) files a b e = absurd e
 
 pub rest_ended : (fault : SessionFault) (pieces : List Piece) (a b : Seen) → Ended fault pieces a b → Rest a b
 rest_ended NoMemory pieces a b e = rest_wrote e.done a b e.wrote
+rest_ended (Create stream) pieces a b e = absurd e
 rest_ended (World stream) pieces a b e = rest_wrote _ a b e.wrote
 
 -- ---- what is written and what is created

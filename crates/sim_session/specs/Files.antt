@@ -5,7 +5,7 @@ use Rattle.vs_world.specs.declared.world.Stream.{Stream}
 use Rattle.vs_world.specs.declared.world.Stream.TheVariants.{Calls, Vcd}
 use Rattle.vs_world.specs.Outside.{Made, Rose}
 use Rattle.sim_session.specs.declared.fault.SessionFault.{SessionFault}
-use Rattle.sim_session.specs.declared.fault.SessionFault.TheVariants.{NoMemory, World}
+use Rattle.sim_session.specs.declared.fault.SessionFault.TheVariants.{NoMemory, Create, World}
 use Rattle.sim_session.specs.declared.texts.Texts.{Texts}
 use Rattle.sim_session.specs.Pieces.{Piece, Seen, Ended}
 
@@ -38,17 +38,11 @@ pub record NotCreated (stream : Stream) (files : Made) (before now : Seen) : Typ
   pub created : Created done before now
   pub rose : Rose before.faults now.faults
 
--- the first of these files were created
-pub record Partly (files : Made) (before now : Seen) : Type 0 where
-  pub done : Made
-  pub rest : Made
-  pub whole : done ++ rest ≡ files
-  pub created : Created done before now
-
--- how far a run came that ended before its first piece
+-- how far a run came that ended before its first piece: all room is taken before the first file is created
 abbrev pub Uncreated : SessionFault → Made → Seen → Seen → Type 0
-Uncreated NoMemory files before now = Partly files before now
-Uncreated (World stream) files before now = NotCreated stream files before now
+Uncreated NoMemory files before now = Created [] before now
+Uncreated (Create stream) files before now = NotCreated stream files before now
+Uncreated (World stream) files before now = ⊥
 
 -- all files were created, and then the run ended among its pieces
 pub record Broken (fault : SessionFault) (files : Made) (pieces : List Piece) (before now : Seen) : Type 0 where

@@ -8,3 +8,6 @@ pub mod Runs
 pub mod RunLaws
 pub mod Ready
 pub mod Files
+pub mod Streams
+pub mod StreamLaws
+pub mod SessionLaws

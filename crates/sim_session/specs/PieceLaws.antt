@@ -7,7 +7,7 @@ use Rattle.vs_world.specs.declared.world.Stream.{Stream}
 use Rattle.vs_world.specs.Outside.{Written, appended, Rose}
 use Rattle.vs_world.specs.CountLaws.{rose_between}
 use Rattle.sim_session.specs.declared.fault.SessionFault.{SessionFault}
-use Rattle.sim_session.specs.declared.fault.SessionFault.TheVariants.{NoMemory, World}
+use Rattle.sim_session.specs.declared.fault.SessionFault.TheVariants.{NoMemory, Create, World}
 use Rattle.sim_session.specs.Pieces.{Piece, Seen, with_piece, wrote, Wrote, Stopped, Failed, Ended}
 
 told_none : (told : Option Written) → told ≡ option_map (wrote []) told
@@ -44,6 +44,7 @@ ended_more NoMemory a b s0 s1 e = record {
   whole = sym (append_assoc e.done e.rest b) ∙ ap (λ (l : List Piece). l ++ b) e.whole;
   wrote = e.wrote;
 }
+ended_more (Create stream) a b s0 s1 e = e
 ended_more (World stream) a b s0 s1 e = record {
   done = e.done;
   part = e.part;
@@ -62,6 +63,7 @@ ended_then NoMemory a b s0 s1 s2 u e = record {
   whole = append_assoc a e.done e.rest ∙ ap (λ (l : List Piece). a ++ l) e.whole;
   wrote = wrote_then a e.done s0 s1 s2 u e.wrote;
 }
+ended_then (Create stream) a b s0 s1 s2 u e = e
 ended_then (World stream) a b s0 s1 s2 u e =
     let cut : Piece = record { stream = stream; bytes = e.part } in
     let next : Piece = record { stream = stream; bytes = e.part ++ e.more } in

@@ -6,7 +6,7 @@ use Rattle.vs_world.specs.declared.world.Stream.{Stream}
 use Rattle.vs_world.specs.declared.world.Stream.TheVariants.{Out, Errors, Calls, Vcd}
 use Rattle.vs_world.specs.Outside.{Files, Written, Made, appended, Rose, IsOpen}
 use Rattle.sim_session.specs.declared.fault.SessionFault.{SessionFault}
-use Rattle.sim_session.specs.declared.fault.SessionFault.TheVariants.{NoMemory, World}
+use Rattle.sim_session.specs.declared.fault.SessionFault.TheVariants.{NoMemory, Create, World}
 
 pub record Piece : Type 0 where
   pub stream : Stream
@@ -58,9 +58,10 @@ pub record Failed (stream : Stream) (pieces : List Piece) (before now : Seen) : 
   pub wrote : Wrote (done ++ record { stream = stream; bytes = part } ∷ []) before now
   pub rose : Rose before.faults now.faults
 
--- how far a run came that ended early
+-- how far a run came that ended among its pieces; then it creates no more files
 abbrev pub Ended : SessionFault → List Piece → Seen → Seen → Type 0
 Ended NoMemory pieces before now = Stopped pieces before now
+Ended (Create stream) pieces before now = ⊥
 Ended (World stream) pieces before now = Failed stream pieces before now
 
 -- the texts that are wanted besides standard output

@@ -74,7 +74,7 @@ end_then s xs ys fault k0 k1 m0 m1 a0 a1 a2 u e =
 
 -- ---- one eval
 
-eval_is : (s : Setting) (k : ℕ) (was now : Machine) → eval_pieces s k was now ≡ texts s.logs s.waves s.built.design k (kept_of now) (values_of s.built was) (values_of s.built now)
+pub eval_is : (s : Setting) (k : ℕ) (was now : Machine) → eval_pieces s k was now ≡ texts s.logs s.waves s.built.design k (kept_of now) (values_of s.built was) (values_of s.built now)
 unfolding eval_pieces
 eval_is s k was now = refl
 

@@ -7,7 +7,10 @@ pub enum SessionFault {
     /// There was no memory left.
     #[error("out of memory")]
     NoMemory,
-    /// The world failed to create this stream's file or to take what was written to it.
+    /// The world failed to create this stream's file. Nothing was written.
+    #[error("a file was not created")]
+    Create(Stream),
+    /// The world failed to take what was written to this stream.
     #[error("a stream failed")]
     World(Stream),
 }

@@ -31,9 +31,12 @@
 //!
 //! For every runner that keeps the clauses of its trait, every world and all acts that fit the design: at `Ok` the streams
 //! grew by exactly the pieces of `specs/Runs.antt`, the files are those that were wanted, in order, and the machine of the
-//! runner is that after all evals; `World(stream)` comes only where the world failed, at that stream; and at any fault the
-//! first pieces were written (`specs/Files.antt`). A model with 2^32 words or more, or with a word of more than 128
-//! bits, is answered as one for which there is no memory; no layout has such words.
+//! runner is that after all evals; `Create(stream)` and `World(stream)` come only where the world failed, at that stream; and
+//! at any fault the first files were created and the first pieces were written (`specs/Files.antt`): at `Create` no piece,
+//! and at want of memory before the first eval no file either. What the pieces leave on each stream is `specs/Streams.antt`,
+//! with its laws for the caller (`specs/StreamLaws.antt`): each stream then holds a front of its text. A model with 2^32
+//! words or more, or with a word of more than 128 bits, is answered as one for which there is no memory; no layout has
+//! such words.
 //!
 //! # Cost
 //!
@@ -50,6 +53,7 @@
 #![tactic(auto)]
 
 mod acts;
+mod create;
 mod eval;
 mod fault;
 mod hex;
@@ -62,5 +66,5 @@ mod values;
 mod whole;
 
 pub use fault::SessionFault;
-pub use whole::run;
 pub use texts::Texts;
+pub use whole::run;

@@ -1,12 +1,12 @@
 //! A whole run.
-ghost use Rattle.std.specs.Prelude.{◌≡◌, ◌≤◌, ◌<◌, ◌++◌, ◌∷◌, [], ℕ, length, OnOk, IfOk, IfErr, IsTrue, true, is_some};
+ghost use Rattle.std.specs.Prelude.{◌≡◌, ◌≤◌, ◌<◌, ◌++◌, ◌∷◌, [], ℕ, length, OnOk, OnErr, IfOk, IfErr, IsTrue, true, is_some};
 ghost use Rattle.std.specs.List.{list_all};
-ghost use Rattle.std.specs.Option.{option_map, option_copied};
+ghost use Rattle.std.specs.Option.{option_map};
 ghost use Rattle.vs_base.specs.Number.{kept};
 ghost use Rattle.plan_types.specs.Machine.{values_of};
 ghost use Rattle.vs_base.specs.declared.limits.TheConstants.{EVALS};
 ghost use Rattle.vs_world.specs.declared.world.Stream.TheVariants.{Calls as CallStream, Vcd as VcdStream};
-ghost use Rattle.vs_world.specs.Outside.{IsOpen, IsCreatable, Rose};
+ghost use Rattle.vs_world.specs.Outside.{IsOpen, IsCreatable};
 ghost use Rattle.vcd_out.specs.Header as head;
 ghost use Rattle.vcd_out.specs.Buffer.{Serves};
 ghost use Rattle.stimulus.specs.Stimulus.{act_fits, design_ports, evals_in};
@@ -14,10 +14,11 @@ ghost use Rattle.sim_session.specs.Inputs.{port_width, opening_ports, inputs_of}
 ghost use Rattle.sim_session.specs.Values.{is_short};
 ghost use Rattle.sim_session.specs.Pieces.{seen, wrote, Wrote, Ended, IsOpened};
 ghost use Rattle.sim_session.specs.Runs.{setting, after_evals, header_pieces, session_pieces};
-ghost use Rattle.sim_session.specs.Files.{named, files_of, and_made, Created, Uncreated, RunEnded};
+ghost use Rattle.sim_session.specs.Files.{files_of, and_made, RunEnded};
 ghost use Rattle.sim_session.specs.Ready.{IsOrdinary, IsReady};
 
 use crate::acts::{run_acts, var_width};
+use crate::create::create_files;
 use crate::fault::SessionFault;
 use crate::piece::write_piece;
 use crate::session::{Room, Session, Wanted};
@@ -29,41 +30,8 @@ use rtl_pieces::Word;
 use sqlite_items::at;
 use std::alloc::{AllocError, Global};
 use vcd_out::{VcdBuf, header};
-use vs_base::{Act, Bits, Text};
+use vs_base::{Act, Bits};
 use vs_world::{Stream, World};
-
-// Creates the file of a stream, where it has a name.
-fn create_file<W: World>(
-    world: &mut W,
-    stream: Stream,
-    name: Option<&Text>,
-) -> Result<(), SessionFault>
-    requires { IsCreatable (W.made world.old) stream }
-    ensures ok { OnOk result (Created (named stream (option_copied name.entry)) (seen (W.written world.old) (W.made world.old) (W.files world.old) (W.faults world.old) (W.absent world.old)) (seen (W.written world.new) (W.made world.new) (W.files world.new) (W.faults world.new) (W.absent world.new))) }
-    ensures err { IfErr result (λ f. Uncreated f (named stream (option_copied name.entry)) (seen (W.written world.old) (W.made world.old) (W.files world.old) (W.faults world.old) (W.absent world.old)) (seen (W.written world.new) (W.made world.new) (W.files world.new) (W.faults world.new) (W.absent world.new))) }
-{
-    let Some(name) = name else {
-        return Ok(());
-    };
-    match world.create(stream, name.as_bytes()) {
-        Ok(()) => Ok(()),
-        Err(_) => Err(SessionFault::World(stream)),
-    }
-}
-
-// Creates the files that are wanted.
-fn create_files<W: World>(world: &mut W, texts: &Texts) -> Result<(), SessionFault>
-    requires calls { IsCreatable (W.made world.old) CallStream }
-    requires vcd { IsCreatable (W.made world.old) VcdStream }
-    ensures ok { OnOk result (Created (files_of texts.now) (seen (W.written world.old) (W.made world.old) (W.files world.old) (W.faults world.old) (W.absent world.old)) (seen (W.written world.new) (W.made world.new) (W.files world.new) (W.faults world.new) (W.absent world.new))) }
-    ensures err { IfErr result (λ f. Uncreated f (files_of texts.now) (seen (W.written world.old) (W.made world.old) (W.files world.old) (W.faults world.old) (W.absent world.old)) (seen (W.written world.new) (W.made world.new) (W.files world.new) (W.faults world.new) (W.absent world.new))) }
-    ensures opened { OnOk result (IsOpened (is_some texts.now.calls) (is_some texts.now.vcd) (W.made world.new)) }
-{
-    match create_file(world, Stream::Calls, texts.calls.as_ref()) {
-        Ok(()) => create_file(world, Stream::Vcd, texts.vcd.as_ref()),
-        Err(fault) => Err(fault),
-    }
-}
 
 // Whether each word is a part of a value.
 fn are_short(words: &[Word]) -> bool
@@ -89,11 +57,7 @@ fn opening_port(vars: &[Var], port: Port) -> Bits
     Bits::new(var_width(at(vars, port.var as usize)), 0)
 }
 
-fn opening_ports(
-    alloc: Global,
-    vars: &[Var],
-    ports: &[Port],
-) -> Result<Vec<Bits>, AllocError>
+fn opening_ports(alloc: Global, vars: &[Var], ports: &[Port]) -> Result<Vec<Bits>, AllocError>
     ensures { IfOk result (λ v. v.items ≡ opening_ports vars.now ports.now) }
 {
     let mut values = Vec::with_capacity(alloc, ports.len())?;
@@ -120,11 +84,7 @@ fn opening_values<R: Runner>(
 }
 
 // What lasts, before the first eval.
-fn open<R: Runner>(
-    alloc: Global,
-    runner: &R,
-    built: &Built,
-) -> Result<Session, SessionFault>
+fn open<R: Runner>(alloc: Global, runner: &R, built: &Built) -> Result<Session, SessionFault>
     requires same { R.built runner.now ≡ built.now }
     requires words { length (R.machine runner.now).outside.words ≡ length built.now.layout.words.items }
     ensures ready { IfOk result (λ s. IsReady s built.now (R.machine runner.now)) }
@@ -135,7 +95,11 @@ fn open<R: Runner>(
     if !is_ordinary(built.layout.words.as_slice()) {
         return Err(SessionFault::NoMemory);
     }
-    let Ok(set) = opening_ports(alloc, built.design.vars.as_slice(), built.design.ports.as_slice()) else {
+    let Ok(set) = opening_ports(
+        alloc,
+        built.design.vars.as_slice(),
+        built.design.ports.as_slice(),
+    ) else {
         return Err(SessionFault::NoMemory);
     };
     let Ok(before) = opening_values(alloc, runner, built) else {
@@ -222,8 +186,9 @@ fn run_session<R: Runner, W: World>(
 /// Runs the acts and writes their texts, each eval's before the next eval begins. `Ok` has the number of evals.
 ///
 /// First all room is taken, then the files that are wanted are created, the call log before the waveform; then the
-/// header of the waveform is written, and for each eval its line, its calls and its changes. `World` comes only where
-/// the world failed at that stream. At a fault the first of these were done, of a piece perhaps a part.
+/// header of the waveform is written, and for each eval its line, its calls and its changes. `Create` and `World` come
+/// only where the world failed at that stream: at `Create` nothing was written, and at `World` all files are there.
+/// At a fault the first of these were done, of a piece perhaps a part.
 pub fn run<R: Runner, W: World>(
     alloc: Global,
     runner: &mut R,

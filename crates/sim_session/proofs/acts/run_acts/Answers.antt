@@ -45,6 +45,6 @@ acts-preserved g c =
       few = let n = e.ran.number in let more = evals_turn rest act some c.act-item.is in let many = act_length d.vars d.ports act set in let few = i.few in omega arith;
       going = going_same _ _ _ _ _ _ _ _ _ _ (ap (λ (l : List Number). inputs_from d.vars d.ports (take (length rest - 1) (drop 1 rest)) l) (sym e.set))
           (going_more _ (act_inputs d.vars d.ports act set) (inputs_from d.vars d.ports (take (length rest - 1) (drop 1 rest)) (after_act d.vars d.ports act set)) _ _ _ _ _ _ _ _ _ _
-              (going_same _ _ _ _ _ _ _ _ _ _ (acts_turn d.vars d.ports rest act set some c.act-item.is) i.going)
-              e.ran);
+          (going_same _ _ _ _ _ _ _ _ _ _ (acts_turn d.vars d.ports rest act set some c.act-item.is) i.going)
+          e.ran);
     }

@@ -20,16 +20,16 @@ pub returns-clause-ran : goal.returns-clause-ran
 returns-clause-ran g c =
     on_ok_weaker c.run_eval.result
     (λ r. ran_from _ _ _ _ _ _ _ _ _ _
-        (ap (λ (l : List Number). inputs_at c.args.built.now.design.ports l ∷ [])
-            (c.set_port.ensures.set ∙ ap (λ (v : Number). slice_set c.args.session.now.set.items c.args.place v) c.number_for.ensures))
-        c.set_port.ensures.rest.number r)
+    (ap (λ (l : List Number). inputs_at c.args.built.now.design.ports l ∷ [])
+    (c.set_port.ensures.set ∙ ap (λ (v : Number). slice_set c.args.session.now.set.items c.args.place v) c.number_for.ensures))
+    c.set_port.ensures.rest.number r)
     c.run_eval.ensures.ran
 
 pub returns-clause-ended : goal.returns-clause-ended
 returns-clause-ended g c =
     IfErr-weaker c.run_eval.result _ _
     (λ f r. end_from _ _ _ f _ _ _ _ _
-        (ap (λ (l : List Number). inputs_at c.args.built.now.design.ports l ∷ [])
-            (c.set_port.ensures.set ∙ ap (λ (v : Number). slice_set c.args.session.now.set.items c.args.place v) c.number_for.ensures))
-        c.set_port.ensures.rest.number r)
+    (ap (λ (l : List Number). inputs_at c.args.built.now.design.ports l ∷ [])
+    (c.set_port.ensures.set ∙ ap (λ (v : Number). slice_set c.args.session.now.set.items c.args.place v) c.number_for.ensures))
+    c.set_port.ensures.rest.number r)
     c.run_eval.ensures.ended

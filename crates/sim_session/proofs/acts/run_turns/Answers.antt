@@ -39,6 +39,6 @@ turns-preserved g c =
       set = ap (λ (l : List Number). after_turns d.vars d.ports c.args.place (c.turns.left - 1) l) e.set ∙ sym (after_step d.vars d.ports c.args.place c.turns.left set some) ∙ i.set;
       going = going_same _ _ _ _ _ _ _ _ _ _ (ap (λ (l : List Number). turns_inputs d.vars d.ports c.args.place (c.turns.left - 1) l) (sym e.set))
           (going_more _ (turn_inputs d.vars d.ports c.args.place set) (turns_inputs d.vars d.ports c.args.place (c.turns.left - 1) (lowered d.vars d.ports c.args.place set)) _ _ _ _ _ _ _ _ _ _
-              (going_same _ _ _ _ _ _ _ _ _ _ (turns_step d.vars d.ports c.args.place c.turns.left set some) i.going)
-              e.ran);
+          (going_same _ _ _ _ _ _ _ _ _ _ (turns_step d.vars d.ports c.args.place c.turns.left set some) i.going)
+          e.ran);
     }

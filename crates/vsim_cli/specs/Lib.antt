@@ -1,4 +1,0 @@
-pub mod Answer
-pub mod AnswerLaws
-pub mod Words
-pub mod Stages

@@ -1,0 +1,128 @@
+// From the laid out design to its texts.
+use crate::command::Command;
+use dpi_host::Host;
+use fault_text::{
+    refuse_drivers, refuse_loop, refuse_not_by_arguments, refuse_stimulus, refuse_too_many,
+    refuse_unknown_import,
+};
+use model_build::{BuildFault, build};
+use plain_runner::PlainRunner;
+use plan_types::Built;
+use rtl_flat::flatten;
+use run_status::{Status, cannot_create, cannot_write, out_of_memory};
+use sim_session::{SessionFault, Texts, run};
+use std::alloc::Global;
+use stimulus::{StimFault, read_stim};
+use sv_elab::Scopes;
+use sv_tree::{Names, SourceTree};
+use vs_base::{Act, Text};
+use vs_world::{Stream, World};
+
+const NO_NAME: &[u8] = b"";
+
+fn name_of(name: &Option<Text>) -> &[u8] {
+    match name {
+        Some(name) => name.as_bytes(),
+        None => NO_NAME,
+    }
+}
+
+// The name of a stream's file.
+fn file_of(texts: &Texts, stream: Stream) -> &[u8] {
+    match stream {
+        Stream::Calls => name_of(&texts.calls),
+        Stream::Vcd => name_of(&texts.vcd),
+        _ => NO_NAME,
+    }
+}
+
+// Ends a run that ended early.
+fn end_run<W: World>(world: &mut W, texts: &Texts, fault: SessionFault) -> Status {
+    match fault {
+        SessionFault::NoMemory => out_of_memory(world),
+        SessionFault::Create(stream) => cannot_create(world, file_of(texts, stream)),
+        SessionFault::World(stream) => cannot_write(world, stream),
+    }
+}
+
+// Runs the acts on the model.
+fn run_acts<W: World, H: Host>(
+    alloc: Global,
+    world: &mut W,
+    command: &Command,
+    built: &Built,
+    acts: &[Act],
+    host: H,
+) -> Status {
+    let Ok(mut runner) = PlainRunner::open(alloc, built, host) else {
+        return out_of_memory(world);
+    };
+    match run(alloc, &mut runner, built, acts, &command.texts, world) {
+        Ok(_) => Status::Done,
+        Err(fault) => end_run(world, &command.texts, fault),
+    }
+}
+
+// Reads the stimulus, and runs it.
+fn run_stimulus<W: World, H: Host>(
+    alloc: Global,
+    world: &mut W,
+    command: &Command,
+    stim: &[u8],
+    built: &Built,
+    host: H,
+) -> Status {
+    match read_stim(alloc, stim, &built.design) {
+        Ok(acts) => run_acts(alloc, world, command, built, &acts, host),
+        Err(fault) => refuse_stimulus(world, fault),
+    }
+}
+
+// Runs the model, where there is a stimulus.
+fn run_built<W: World, H: Host>(
+    alloc: Global,
+    world: &mut W,
+    command: &Command,
+    stim: &Option<Vec<u8>>,
+    built: &Built,
+    host: H,
+) -> Status {
+    match stim {
+        Some(stim) => run_stimulus(alloc, world, command, stim, built, host),
+        None => Status::Done,
+    }
+}
+
+// Refuses a design of which no model is built.
+fn refuse_model<W: World>(world: &mut W, files: &[Text], fault: BuildFault) -> Status {
+    match fault {
+        BuildFault::NoMemory(_) => out_of_memory(world),
+        BuildFault::MultipleDrivers(bit, one, two) => {
+            refuse_drivers(world, files, bit.as_bytes(), one, two)
+        }
+        BuildFault::UnknownImport(name) => refuse_unknown_import(world, name.as_bytes()),
+        BuildFault::NotByArguments(name) => refuse_not_by_arguments(world, name.as_bytes()),
+        BuildFault::TooMany(kind) => refuse_too_many(world, kind),
+        BuildFault::Loop(places) => refuse_loop(world, files, places.as_slice()),
+    }
+}
+
+// Builds the model of the laid out design.
+pub fn model_laid<W: World, H: Host>(
+    alloc: Global,
+    world: &mut W,
+    command: &Command,
+    stim: &Option<Vec<u8>>,
+    names: &Names,
+    tree: &SourceTree,
+    scopes: &Scopes,
+    host: H,
+) -> Status {
+    let Ok(design) = flatten(alloc, tree, names, scopes) else {
+        return out_of_memory(world);
+    };
+    match build(alloc, design, command.mode, &host) {
+        Ok(built) => run_built(alloc, world, command, stim, &built, host),
+        Err(fault) => refuse_model(world, &command.files, fault),
+    }
+}
