@@ -21,12 +21,30 @@ fn words_that_set_nothing_are_usage(rt: HostRuntime) -> Result<(), Fail> {
         usage("neither a check nor a run", &["d.sv"]),
         usage("both", &["d.sv", "--lint-only", "--stim", "s.txt"]),
         usage("no file", &["--stim", "s.txt"]),
-        usage("an option twice", &["d.sv", "--stim", "s.txt", "--stim", "s.txt"]),
-        usage("too many threads", &["d.sv", "--stim", "s.txt", "--threads", "17"]),
-        usage("no such mode", &["d.sv", "--stim", "s.txt", "--threads-dpi", "some"]),
-        usage("a check has no waveform", &["d.sv", "--lint-only", "--vcd", "w.vcd"]),
-        usage("one file for two texts", &["d.sv", "--stim", "s.txt", "--calls", "f", "--vcd", "f"]),
-        usage("an option that there is not", &["d.sv", "--stim", "s.txt", "--trace"]),
+        usage(
+            "an option twice",
+            &["d.sv", "--stim", "s.txt", "--stim", "s.txt"],
+        ),
+        usage(
+            "too many threads",
+            &["d.sv", "--stim", "s.txt", "--threads", "17"],
+        ),
+        usage(
+            "no such mode",
+            &["d.sv", "--stim", "s.txt", "--threads-dpi", "some"],
+        ),
+        usage(
+            "a check has no waveform",
+            &["d.sv", "--lint-only", "--vcd", "w.vcd"],
+        ),
+        usage(
+            "one file for two texts",
+            &["d.sv", "--stim", "s.txt", "--calls", "f", "--vcd", "f"],
+        ),
+        usage(
+            "an option that there is not",
+            &["d.sv", "--stim", "s.txt", "--trace"],
+        ),
     ];
     for case in &cases {
         try_case(&rt, alloc, case)?;
@@ -43,7 +61,11 @@ fn design<'a>(title: &'a str, design: &'a str, errors: &'a str) -> Case<'a> {
 fn a_design_is_refused_before_its_stimulus(rt: HostRuntime) -> Result<(), Fail> {
     let alloc = rt.alloc();
     let cases = [
-        design("a comment that is open", "module top; /* x", "vsim: d.sv:1:13: open comment\n"),
+        design(
+            "a comment that is open",
+            "module top; /* x",
+            "vsim: d.sv:1:13: open comment\n",
+        ),
         design(
             "an unknown macro",
             "`define A `B\n`define B `C\nmodule top;\n`A endmodule\n",
@@ -67,17 +89,29 @@ fn a_design_is_refused_before_its_stimulus(rt: HostRuntime) -> Result<(), Fail> 
         Case {
             words: &["d.sv", "e.sv", "--stim", "s.txt"],
             second: "\"open\n",
-            ..design("each file is lexed before any is preprocessed", "`nope\n", "vsim: e.sv:1:1: open string\n")
+            ..design(
+                "each file is lexed before any is preprocessed",
+                "`nope\n",
+                "vsim: e.sv:1:1: open string\n",
+            )
         },
         Case {
             words: &["d.sv", "e.sv", "--stim", "s.txt"],
             second: "`else\n",
-            ..design("a fault of the second file", DESIGN, "vsim: e.sv:1:1: stray else\n")
+            ..design(
+                "a fault of the second file",
+                DESIGN,
+                "vsim: e.sv:1:1: stray else\n",
+            )
         },
         Case {
             words: &["d.sv", "e.sv", "--stim", "s.txt"],
             second: "module low; endmodule\n",
-            ..design("two modules, none of them named", DESIGN, "vsim: many top modules\n")
+            ..design(
+                "two modules, none of them named",
+                DESIGN,
+                "vsim: many top modules\n",
+            )
         },
         design("no module", "", "vsim: no top module\n"),
         design(
@@ -122,7 +156,15 @@ fn a_model_is_refused_before_its_stimulus(rt: HostRuntime) -> Result<(), Fail> {
         ),
         refused(
             "an import that is deemed safe and has a state",
-            &["d.sv", "--stim", "s.txt", "--threads-dpi", "all", "--calls", "c.log"],
+            &[
+                "d.sv",
+                "--stim",
+                "s.txt",
+                "--threads-dpi",
+                "all",
+                "--calls",
+                "c.log",
+            ],
             NEXT,
             "tick\n",
             "vsim: import vs_next does not answer by arguments alone\n",
@@ -171,13 +213,41 @@ fn absent<'a>(title: &'a str, words: &'a [&'a str], errors: &'a str) -> Case<'a>
 fn stimuli_and_files_are_refused(rt: HostRuntime) -> Result<(), Fail> {
     let alloc = rt.alloc();
     let cases = [
-        stimulus("a value too wide", "set a 100\n", "vsim: stimulus line 1: value too wide\n"),
-        stimulus("no such input", "eval\nset b 1\n", "vsim: stimulus line 2: unknown input\n"),
-        stimulus("no act", "# a comment\n\ntick\n", "vsim: stimulus line 3: bad line\n"),
-        stimulus("too many evals", "clock a 500001\n", "vsim: stimulus line 1: too many evals\n"),
-        absent("no such design", &["none.sv", "--stim", "s.txt"], "vsim: cannot read none.sv\n"),
-        absent("no such stimulus", &["d.sv", "--stim", "none"], "vsim: cannot read none\n"),
-        absent("a check reads files", &["--lint-only", "none.sv"], "vsim: cannot read none.sv\n"),
+        stimulus(
+            "a value too wide",
+            "set a 100\n",
+            "vsim: stimulus line 1: value too wide\n",
+        ),
+        stimulus(
+            "no such input",
+            "eval\nset b 1\n",
+            "vsim: stimulus line 2: unknown input\n",
+        ),
+        stimulus(
+            "no act",
+            "# a comment\n\ntick\n",
+            "vsim: stimulus line 3: bad line\n",
+        ),
+        stimulus(
+            "too many evals",
+            "clock a 500001\n",
+            "vsim: stimulus line 1: too many evals\n",
+        ),
+        absent(
+            "no such design",
+            &["none.sv", "--stim", "s.txt"],
+            "vsim: cannot read none.sv\n",
+        ),
+        absent(
+            "no such stimulus",
+            &["d.sv", "--stim", "none"],
+            "vsim: cannot read none\n",
+        ),
+        absent(
+            "a check reads files",
+            &["--lint-only", "none.sv"],
+            "vsim: cannot read none.sv\n",
+        ),
     ];
     for case in &cases {
         try_case(&rt, alloc, case)?;

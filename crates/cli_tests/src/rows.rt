@@ -4,8 +4,7 @@ use crate::case::{Case, run, try_case};
 use std::test::Fail;
 use vs_world::Stream;
 
-const ADDER: &str =
-    "module top(input [7:0] a, output [7:0] y); assign y = a + 1; endmodule";
+const ADDER: &str = "module top(input [7:0] a, output [7:0] y); assign y = a + 1; endmodule";
 
 const HEADER: &str = "$timescale 1ns $end
 $scope module top $end
@@ -186,12 +185,27 @@ fn calls_are_logged_that_are_not_deemed_safe(rt: HostRuntime) -> Result<(), Fail
         ),
         logged(
             "all imports are",
-            &["--threads-dpi=all", "d.sv", "--stim", "s.txt", "--calls", "c.log"],
+            &[
+                "--threads-dpi=all",
+                "d.sv",
+                "--stim",
+                "s.txt",
+                "--calls",
+                "c.log",
+            ],
             "",
         ),
         logged(
             "none is",
-            &["--threads-dpi", "none", "d.sv", "--stim", "s.txt", "--calls", "c.log"],
+            &[
+                "--threads-dpi",
+                "none",
+                "d.sv",
+                "--stim",
+                "s.txt",
+                "--calls",
+                "c.log",
+            ],
             LOG,
         ),
     ];
