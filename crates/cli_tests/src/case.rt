@@ -17,7 +17,8 @@ pub struct Case<'a> {
     pub second: &'a str,
     pub stimulus: &'a str,
     pub most: usize,
-    pub fails: &'a [Planned],
+    pub fails: Option<Planned>,
+    pub also: Option<Planned>,
     pub status: Status,
     pub out: &'a str,
     pub errors: &'a str,
@@ -37,7 +38,8 @@ pub fn run<'a>(title: &'a str, design: &'a str, stimulus: &'a str, out: &'a str)
         second: "",
         stimulus,
         most: 100_000,
-        fails: &[],
+        fails: None,
+        also: None,
         status: Status::Done,
         out,
         errors: "",
@@ -83,8 +85,11 @@ fn files(alloc: Global, case: &Case<'_>) -> Result<Vec<MemFile>, AllocError> {
 fn world(alloc: Global, case: &Case<'_>) -> Result<MemWorld, AllocError> {
     let files = files(alloc, case)?;
     let mut fails = Vec::new(alloc);
-    for planned in case.fails {
-        fails.push(*planned)?;
+    if let Some(planned) = case.fails {
+        fails.push(planned)?;
+    }
+    if let Some(planned) = case.also {
+        fails.push(planned)?;
     }
     MemWorld::new(alloc, files, case.most.max(1), 100_000, fails)
 }

@@ -120,9 +120,9 @@ fn part(title: &str, out: usize, calls: usize, vcd: usize) -> Case<'_> {
 }
 
 // A call fails before anything is created.
-fn early<'a>(title: &'a str, fails: &'a [Planned], errors: &'a str) -> Case<'a> {
+fn early<'a>(title: &'a str, fails: Planned, errors: &'a str) -> Case<'a> {
     Case {
-        fails,
+        fails: Some(fails),
         status: Status::WorldFault,
         errors,
         made: &[],
@@ -132,9 +132,9 @@ fn early<'a>(title: &'a str, fails: &'a [Planned], errors: &'a str) -> Case<'a> 
 }
 
 // A write fails, after so many texts of each stream.
-fn late<'a>(fails: &'a [Planned], texts: (usize, usize, usize), errors: &'a str) -> Case<'a> {
+fn late<'a>(fails: Planned, texts: (usize, usize, usize), errors: &'a str) -> Case<'a> {
     Case {
-        fails,
+        fails: Some(fails),
         status: Status::WorldFault,
         errors,
         faults: 1,
@@ -156,19 +156,19 @@ fn a_call_before_the_run_fails(rt: HostRuntime) -> Result<(), Fail> {
         made: &[CALLS],
         ..early(
             "the waveform is not created",
-            &[planned(Op::Create, 2)],
+            planned(Op::Create, 2),
             "vsim: cannot create w.vcd\n",
         )
     };
     let cases = [
         part("nothing fails", 3, 3, 4),
-        early("the first read", &[planned(Op::Read, 1)], d_sv),
-        early("the end of the design", &[planned(Op::Read, 2)], d_sv),
-        early("the stimulus", &[planned(Op::Read, 3)], s_txt),
-        early("the end of the stimulus", &[planned(Op::Read, 4)], s_txt),
+        early("the first read", planned(Op::Read, 1), d_sv),
+        early("the end of the design", planned(Op::Read, 2), d_sv),
+        early("the stimulus", planned(Op::Read, 3), s_txt),
+        early("the end of the stimulus", planned(Op::Read, 4), s_txt),
         early(
             "the call log is not created",
-            &[planned(Op::Create, 1)],
+            planned(Op::Create, 1),
             "vsim: cannot create c.log\n",
         ),
         second,
@@ -187,16 +187,16 @@ fn a_write_of_the_run_fails(rt: HostRuntime) -> Result<(), Fail> {
     let calls = "vsim: cannot write calls\n";
     let vcd = "vsim: cannot write vcd\n";
     let cases = [
-        late(&[planned(Op::Write(Stream::Vcd), 1)], (0, 0, 0), vcd),
-        late(&[planned(Op::Write(Stream::Out), 1)], (0, 0, 1), out),
-        late(&[planned(Op::Write(Stream::Calls), 1)], (1, 0, 1), calls),
-        late(&[planned(Op::Write(Stream::Vcd), 2)], (1, 1, 1), vcd),
-        late(&[planned(Op::Write(Stream::Out), 2)], (1, 1, 2), out),
-        late(&[planned(Op::Write(Stream::Calls), 2)], (2, 1, 2), calls),
-        late(&[planned(Op::Write(Stream::Vcd), 3)], (2, 2, 2), vcd),
-        late(&[planned(Op::Write(Stream::Out), 3)], (2, 2, 3), out),
-        late(&[planned(Op::Write(Stream::Calls), 3)], (3, 2, 3), calls),
-        late(&[planned(Op::Write(Stream::Vcd), 4)], (3, 3, 3), vcd),
+        late(planned(Op::Write(Stream::Vcd), 1), (0, 0, 0), vcd),
+        late(planned(Op::Write(Stream::Out), 1), (0, 0, 1), out),
+        late(planned(Op::Write(Stream::Calls), 1), (1, 0, 1), calls),
+        late(planned(Op::Write(Stream::Vcd), 2), (1, 1, 1), vcd),
+        late(planned(Op::Write(Stream::Out), 2), (1, 1, 2), out),
+        late(planned(Op::Write(Stream::Calls), 2), (2, 1, 2), calls),
+        late(planned(Op::Write(Stream::Vcd), 3), (2, 2, 2), vcd),
+        late(planned(Op::Write(Stream::Out), 3), (2, 2, 3), out),
+        late(planned(Op::Write(Stream::Calls), 3), (3, 2, 3), calls),
+        late(planned(Op::Write(Stream::Vcd), 4), (3, 3, 3), vcd),
     ];
     for case in &cases {
         try_case(&rt, alloc, case)?;
@@ -213,7 +213,7 @@ fn a_write_fails_within_a_text(rt: HostRuntime) -> Result<(), Fail> {
             most: 1,
             out: "0 y=0",
             ..late(
-                &[planned(Op::Write(Stream::Out), 6)],
+                planned(Op::Write(Stream::Out), 6),
                 (0, 0, 1),
                 "vsim: cannot write out\n",
             )
@@ -222,26 +222,20 @@ fn a_write_fails_within_a_text(rt: HostRuntime) -> Result<(), Fail> {
             most: 1,
             calls: "0 vs_n",
             ..late(
-                &[planned(Op::Write(Stream::Calls), 7)],
+                planned(Op::Write(Stream::Calls), 7),
                 (1, 0, 1),
                 "vsim: cannot write calls\n",
             )
         },
         Case {
+            also: Some(planned(Op::Write(Stream::Errors), 2)),
             faults: 2,
-            ..late(
-                &[
-                    planned(Op::Write(Stream::Out), 2),
-                    planned(Op::Write(Stream::Errors), 2),
-                ],
-                (1, 1, 2),
-                "vsim: ",
-            )
+            ..late(planned(Op::Write(Stream::Out), 2), (1, 1, 2), "vsim: ")
         },
         Case {
             words: &["d.sv"],
             errors: "vsim: ",
-            ..early("usage", &[planned(Op::Write(Stream::Errors), 2)], "")
+            ..early("usage", planned(Op::Write(Stream::Errors), 2), "")
         },
     ];
     for case in &cases {
