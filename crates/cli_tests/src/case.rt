@@ -1,5 +1,8 @@
 //! A command over files that stand in memory, and what must come of it.
 
+ghost use Rattle.std.specs.Prelude.{◌≡◌, [], IfOk};
+ghost use Rattle.vs_world.specs.InMemory.{memory_of};
+
 use dpi_lib::LibHost;
 use run_status::Status;
 use std::alloc::{AllocError, Global};
@@ -82,7 +85,10 @@ fn files(alloc: Global, case: &Case<'_>) -> Result<Vec<MemFile>, AllocError> {
     Ok(files)
 }
 
-fn world(alloc: Global, case: &Case<'_>) -> Result<MemWorld, AllocError> {
+// Nothing is created in it yet.
+fn world(alloc: Global, case: &Case<'_>) -> Result<MemWorld, AllocError>
+    ensures { IfOk result (λ w. (memory_of w).made ≡ []) }
+{
     let files = files(alloc, case)?;
     let mut fails = Vec::new(alloc);
     if let Some(planned) = case.fails {
