@@ -1,4 +1,8 @@
 // What a command asks for.
+ghost use Rattle.std.specs.Prelude.{◌≡◌};
+ghost use Rattle.vsim_words.specs.Views.{settings_by_options};
+ghost use Rattle.vsim_cli.specs.Case as spec;
+
 use dpi_host::Mode;
 use sim_session::Texts;
 use vs_base::Text;
@@ -22,7 +26,9 @@ pub struct Asked {
 }
 
 // The stimulus that an action names.
-fn stim_of(action: Action) -> Option<Text> {
+fn stim_of(action: Action) -> Option<Text>
+    ensures { result ≡ spec.stim_of action }
+{
     match action {
         Action::Lint => None,
         Action::Stim(name) => Some(name),
@@ -30,7 +36,11 @@ fn stim_of(action: Action) -> Option<Text> {
 }
 
 /// What the options ask for.
-pub fn asked_by(options: Options) -> Asked {
+pub fn asked_by(options: Options) -> Asked
+    ensures command { spec.command_by result.command ≡ spec.command_of (settings_by_options options) }
+    ensures stim { result.stim ≡ spec.stim_of options.action }
+    ensures files { result.command.files ≡ options.files }
+{
     let Options {
         files,
         action,

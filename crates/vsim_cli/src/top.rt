@@ -1,11 +1,21 @@
 // The whole command.
+ghost use Rattle.std.specs.Prelude.{◌≡◌, ◌≤◌, ℕ, List, All, Contains, length, map, string_bytes};
+ghost use Rattle.vs_world.specs.declared.world.Stream.TheVariants.{Calls as CallStream, Vcd as VcdStream};
+ghost use Rattle.vs_world.specs.Outside.{IsCreatable};
+ghost use Rattle.run_status.specs.Answer.{Table};
+ghost use Rattle.run_status.specs.Written.{OnlyWrites};
+ghost use Rattle.vsim_words.specs.Settings.{settings_of};
+ghost use Rattle.vsim_cli.specs.Case.{command_by, host_view, with_stim};
+ghost use Rattle.vsim_cli.specs.Inputs.{StopsWith};
+ghost use Rattle.vsim_cli.specs.Check.{IsContentsAnswer, IsCommandAnswer, IsToldAnswer, named_in};
+
 use crate::command::{Command, asked_by};
 use crate::front::check_files;
 use crate::inputs::{Stop, read_files};
 use dpi_host::Host;
 use fault_text::{refuse_length, refuse_words};
 use run_input::{input, unread};
-use run_status::{Status, out_of_memory};
+use run_status::{Status, file_name, out_of_memory};
 use std::alloc::Global;
 use std::thread::Threads;
 use vs_base::Text;
@@ -20,7 +30,13 @@ fn read_stimulus<W: World, H: Host>(
     stim: &Option<Text>,
     contents: &[Vec<u8>],
     host: H,
-) -> Status {
+) -> Status
+    requires count { length contents.now ≤ 64 }
+    requires bytes { All (λ bytes. length bytes.items ≤ 4194304) contents.now }
+    requires calls { IsCreatable (W.made world.old) CallStream }
+    requires vcd { IsCreatable (W.made world.old) VcdStream }
+    ensures table { Table (IsContentsAnswer (command_by command.now) (host_view (H.id_of (H.fixed host)) (H.by_args (H.fixed host)) H.answer H.after (H.fixed host) (H.state host)) stim.now (W.files world.old) (map (λ f. f.items) contents.now)) result (with_stim command.now.files.items stim.now) (W.written world.old) (W.written world.new) (W.made world.old) (W.made world.new) (W.faults world.old) (W.faults world.new) (W.absent world.old) (W.absent world.new) }
+{
     let Some(name) = stim else {
         return check_files(alloc, world, command, &None, contents, host);
     };
@@ -32,10 +48,13 @@ fn read_stimulus<W: World, H: Host>(
 }
 
 // Ends where the files of the design were not all read.
-fn stopped<W: World>(world: &mut W, files: &[Text], stop: Stop) -> Status {
+fn stopped<W: World>(world: &mut W, files: &[Text], stop: Stop) -> Status
+    ensures told { StopsWith result stop files.now (W.written world.old) (W.written world.new) (W.faults world.old) (W.faults world.new) }
+    ensures rest { OnlyWrites (W.faults world.old) (W.faults world.new) (W.absent world.old) (W.absent world.new) (W.files world.old) (W.files world.new) (W.made world.old) (W.made world.new) }
+{
     match stop {
-        Stop::TooLong(k) => refuse_length(world, files[k].as_bytes()),
-        Stop::Unread(k, fault) => unread(world, files[k].as_bytes(), fault),
+        Stop::TooLong(k) => refuse_length(world, file_name(files, k)),
+        Stop::Unread(k, fault) => unread(world, file_name(files, k), fault),
     }
 }
 
@@ -46,7 +65,12 @@ fn run_named<W: World, H: Host>(
     command: &Command,
     stim: &Option<Text>,
     host: H,
-) -> Status {
+) -> Status
+    requires count { length command.now.files.items ≤ 64 }
+    requires calls { IsCreatable (W.made world.old) CallStream }
+    requires vcd { IsCreatable (W.made world.old) VcdStream }
+    ensures table { Table (IsCommandAnswer (command_by command.now) (host_view (H.id_of (H.fixed host)) (H.by_args (H.fixed host)) H.answer H.after (H.fixed host) (H.state host)) stim.now (W.files world.old)) result (with_stim command.now.files.items stim.now) (W.written world.old) (W.written world.new) (W.made world.old) (W.made world.new) (W.faults world.old) (W.faults world.new) (W.absent world.old) (W.absent world.new) }
+{
     match read_files(alloc, world, &command.files) {
         Ok(contents) => read_stimulus(alloc, world, command, stim, &contents, host),
         Err(stop) => stopped(world, &command.files, stop),
@@ -60,7 +84,11 @@ pub fn vsim<T: Threads + Sync, W: World, H: Host>(
     words: &[String],
     world: &mut W,
     host: H,
-) -> Status {
+) -> Status
+    requires calls { IsCreatable (W.made world.old) CallStream }
+    requires vcd { IsCreatable (W.made world.old) VcdStream }
+    ensures table { Table (IsToldAnswer (map string_bytes words.now) (host_view (H.id_of (H.fixed host)) (H.by_args (H.fixed host)) H.answer H.after (H.fixed host) (H.state host)) (W.files world.old)) result (named_in (settings_of (map string_bytes words.now))) (W.written world.old) (W.written world.new) (W.made world.old) (W.made world.new) (W.faults world.old) (W.faults world.new) (W.absent world.old) (W.absent world.new) }
+{
     match settings(alloc, words) {
         Ok(options) => {
             let asked = asked_by(options);
