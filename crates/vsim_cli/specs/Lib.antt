@@ -10,3 +10,4 @@ pub mod EndLaws
 pub mod Ends
 pub mod RunLaws
 pub mod ModelLaws
+pub mod StopLaws

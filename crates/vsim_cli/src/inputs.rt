@@ -4,6 +4,7 @@ ghost use Rattle.std.proofs.Common.{inr};
 ghost use Rattle.vsim_cli.specs.Inputs.{all_read, StopCause, OnlyRead};
 
 use run_input::{InputFault, input};
+use run_status::file_name;
 use std::alloc::Global;
 use vs_base::Text;
 use vs_world::World;
@@ -30,7 +31,7 @@ pub fn read_files<W: World>(
     let mut files = Vec::new(alloc);
     let mut at = 0;
     while at < names.len() {
-        let bytes = match input(alloc, world, names[at].as_bytes()) {
+        let bytes = match input(alloc, world, file_name(names, at)) {
             Ok(Some(bytes)) => bytes,
             Ok(None) => return Err(Stop::TooLong(at)),
             Err(fault) => return Err(Stop::Unread(at, fault)),
