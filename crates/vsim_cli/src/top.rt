@@ -77,7 +77,12 @@ fn run_named<W: World, H: Host>(
     }
 }
 
-/// Runs the command of these words.
+/// Runs the command of these words: checks the design in 1 to 64 files (`--lint-only`) or runs it on a stimulus (`--stim`).
+///
+/// Gives `Done` where nothing is refused and all texts are written; `Refused` where the words, the design or the stimulus
+/// are refused, by one line on standard error and nothing else; `WorldFault` where reading, creating or writing failed, or
+/// a file is not there; `NoMemory` where memory ran out. What each says of the streams and the files is the table of
+/// `run_status`. No thread is started yet.
 pub fn vsim<T: Threads + Sync, W: World, H: Host>(
     _rt: &T,
     alloc: Global,
