@@ -330,13 +330,13 @@ fn model(alloc: Global, deemed: bool) -> Result<Built, NoMemory>
 
 // The words and how many calls were kept.
 #[derive(Clone, Copy, Debug, PartialEq, Eq)]
-struct Shown {
+struct Row {
     words: [u64; 6],
     calls: usize,
 }
 
 // Makes an eval, and shows what is there after it.
-fn after<'a>(runner: &mut PlainRunner<'a, Echo>, clk: u128, a: u128) -> Option<Shown>
+fn after<'a>(runner: &mut PlainRunner<'a, Echo>, clk: u128, a: u128) -> Option<Row>
     requires words { length (⟦<PlainRunner<'a, Echo> as Runner>⟧.built runner.old).layout.words.items ≡ 6 }
     requires inputs { map (width_of (⟦<PlainRunner<'a, Echo> as Runner>⟧.built runner.old).design.vars) (input_vars (⟦<PlainRunner<'a, Echo> as Runner>⟧.built runner.old).design.ports) ≡ 1 ∷ 8 ∷ [] }
     ensures { ⟦<PlainRunner<'a, Echo> as Runner>⟧.built runner.new ≡ ⟦<PlainRunner<'a, Echo> as Runner>⟧.built runner.old }
@@ -344,10 +344,10 @@ fn after<'a>(runner: &mut PlainRunner<'a, Echo>, clk: u128, a: u128) -> Option<S
     let Ok(()) = runner.eval(&[Bits::new(1, clk), Bits::new(8, a)]) else {
         return None;
     };
-    Some(shown(runner))
+    Some(look(runner))
 }
 
-fn shown<'a>(runner: &PlainRunner<'a, Echo>) -> Shown
+fn look<'a>(runner: &PlainRunner<'a, Echo>) -> Row
     requires { length (⟦<PlainRunner<'a, Echo> as Runner>⟧.built runner.now).layout.words.items ≡ 6 }
 {
     let words = [
@@ -358,26 +358,26 @@ fn shown<'a>(runner: &PlainRunner<'a, Echo>) -> Shown
         runner.word(4),
         runner.word(5),
     ];
-    Shown {
+    Row {
         words,
         calls: runner.calls().len(),
     }
 }
 
-fn of(words: [u64; 6], calls: usize) -> Option<Shown> {
-    Some(Shown { words, calls })
+fn wanted(words: [u64; 6], calls: usize) -> Option<Row> {
+    Some(Row { words, calls })
 }
 
 #[test]
 fn a_counter_counts_at_its_edge(rt: HostRuntime) -> Result<(), NoMemory> {
     let built = model(rt.alloc(), false)?;
     let mut runner = PlainRunner::open(rt.alloc(), &built, Echo)?;
-    assert!(rt; after(&mut runner, 1, 7) == of([0, 1, 7, 13, 6, 6], 2));
+    assert!(rt; after(&mut runner, 1, 7) == wanted([0, 1, 7, 13, 6, 6], 2));
     let call = CallRec::new(0, &[7], 7);
     assert_eq!(rt; runner.calls(), [call, call].as_slice());
-    assert!(rt; after(&mut runner, 1, 8) == of([0, 1, 8, 14, 6, 6], 1));
-    assert!(rt; after(&mut runner, 0, 0xfe) == of([0, 0, 0xfe, 4, 6, 6], 1));
-    assert!(rt; after(&mut runner, 1, 0) == of([0, 1, 0, 7, 7, 7], 2));
+    assert!(rt; after(&mut runner, 1, 8) == wanted([0, 1, 8, 14, 6, 6], 1));
+    assert!(rt; after(&mut runner, 0, 0xfe) == wanted([0, 0, 0xfe, 4, 6, 6], 1));
+    assert!(rt; after(&mut runner, 1, 0) == wanted([0, 1, 0, 7, 7, 7], 2));
     Ok(())
 }
 
@@ -385,6 +385,6 @@ fn a_counter_counts_at_its_edge(rt: HostRuntime) -> Result<(), NoMemory> {
 fn calls_that_are_deemed_safe_are_not_kept(rt: HostRuntime) -> Result<(), NoMemory> {
     let built = model(rt.alloc(), true)?;
     let mut runner = PlainRunner::open(rt.alloc(), &built, Echo)?;
-    assert!(rt; after(&mut runner, 1, 7) == of([0, 1, 7, 13, 6, 6], 0));
+    assert!(rt; after(&mut runner, 1, 7) == wanted([0, 1, 7, 13, 6, 6], 0));
     Ok(())
 }
