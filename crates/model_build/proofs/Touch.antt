@@ -9,7 +9,8 @@ use Rattle.rtl_pieces.specs.declared.range.BitRange.{BitRange}
 use Rattle.rtl_pieces.specs.Line.{has}
 use Rattle.logic_graph.specs.declared.ranges.WordRange.{WordRange}
 use Rattle.logic_graph.specs.Reading.{has_word}
-use Rattle.model_build.specs.Touching.{Each, WordsAre, is_in}
+use Rattle.task_code.specs.Compiled.{Each}
+use Rattle.model_build.specs.Touching.{WordsAre, is_in}
 use Rattle.model_build.proofs.Feeding.{each_push}
 
 same : (a b : Bool) → (a ≡ true → b ≡ true) → (b ≡ true → a ≡ true) → a ≡ b

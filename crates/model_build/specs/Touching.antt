@@ -9,13 +9,6 @@ use Rattle.logic_graph.specs.declared.ranges.WordRange.{WordRange}
 use Rattle.logic_graph.specs.declared.ranges.Touched.{Touched}
 use Rattle.logic_graph.specs.Reading.{has_word}
 
--- each of some things has what belongs to it, in order
-abbrev pub Each : {A B : Type 0} → (A → B → Type 0) → List A → List B → Type 0
-Each R [] [] = Unit {0}
-Each R [] (y ∷ ys) = ⊥
-Each R (x ∷ xs) [] = ⊥
-Each R (x ∷ xs) (y ∷ ys) = R x y × Each R xs ys
-
 -- word w, which stands from its place up to the next one, has a bit of a range
 abbrev pub is_in : List ℕ → ℕ → BitRange → Bool
 is_in places w r = nat_lt (suc w) (length places) && (nat_lt r.from r.to && (nat_lt (slice_index places w) r.to && nat_lt r.from (slice_index places (suc w))))
