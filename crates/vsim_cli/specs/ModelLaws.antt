@@ -1,5 +1,5 @@
 -- From what the model and the stimulus are refused for to what the status says.
-use Rattle.std.proofs.Common.{◌≡◌, ℕ, List, Option, refl, sym, ap, ◌∙◌, subst, absurd}
+use Rattle.std.proofs.Common.{◌≡◌, ℕ, List, Option, refl, sym, ap, ◌∙◌, subst}
 use Rattle.std.specs.Prelude.{true, Result, Ok, Err}
 use Rattle.vs_base.specs.declared.act.Act.{Act}
 use Rattle.vs_world.specs.Outside.{Written, Made}
