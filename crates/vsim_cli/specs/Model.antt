@@ -37,7 +37,7 @@ use Rattle.vsim_cli.specs.Case.{Text, Bytes, Command, HostView, Case}
 -- ---- what is told of the flat design of scopes
 
 pub record IsFlat (table : List Text) (tree : SourceTree) (scopes : List Scope) (d : Design) : Type 0 where
-  pub scopes : d.scopes ≡ map flat_scope_of scopes
+  pub scopes_are : d.scopes ≡ map flat_scope_of scopes
   pub imports : flat_imports.AreImports table tree d.imports
   pub ports : flat_ports.top_ports table tree.descriptions scopes ≡ Some d.ports
   pub vars : All (VarStands scopes) d.vars

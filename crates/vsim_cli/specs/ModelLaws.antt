@@ -1,10 +1,10 @@
 -- From what the model and the stimulus are refused for to what the status says.
 use Rattle.std.proofs.Common.{◌≡◌, ℕ, List, Option, refl, sym, ap, ◌∙◌, subst}
-use Rattle.std.specs.Prelude.{true, Result, Ok, Err}
+use Rattle.std.specs.Prelude.{◌≢◌, true, Result, Ok, Err}
 use Rattle.vs_base.specs.declared.act.Act.{Act}
 use Rattle.vs_world.specs.Outside.{Written, Made}
 use Rattle.run_status.specs.declared.status.Status.{Status}
-use Rattle.run_status.specs.Answer.{Answer, Refused, Refuses, Table}
+use Rattle.run_status.specs.Answer.{Answer, Refused, Texts, Refuses, Table}
 use Rattle.run_status.specs.AnswerLaws.{refusal_ends, table_weaker}
 use Rattle.sv_tree.specs.declared.tree.source.SourceTree.{SourceTree}
 use Rattle.sv_elab.specs.declared.scope.Scope.{Scope}
@@ -19,7 +19,7 @@ use Rattle.model_build.specs.Answer.{IsAccepted, IsFault}
 use Rattle.fault_text.specs.FaultText.{stimulus_text}
 use Rattle.fault_text.specs.Refusal.{Wants, RefusesStimulus}
 use Rattle.vsim_cli.specs.Case.{Text, Bytes, Command, HostView, Case}
-use Rattle.vsim_cli.specs.Model.{IsFlat, uses_of, IsBuilt, acts_answer, bytes_answer, built_answer, is_of_model, model_text, ModelAnswer, Unbuilt, IsModel}
+use Rattle.vsim_cli.specs.Model.{IsFlat, uses_of, IsBuilt, run_output, acts_answer, bytes_answer, built_answer, is_of_model, model_text, ModelAnswer, Unbuilt, IsModel}
 use Rattle.vsim_cli.specs.Ends.{RefusesModel}
 use Rattle.vsim_cli.specs.Check.{IsLaid, DesignAnswer, Laid}
 use Rattle.vsim_cli.specs.CheckLaws.{some_design_answer}
@@ -27,19 +27,24 @@ use Rattle.vsim_cli.specs.EndLaws.{memory_ends}
 
 -- ---- the stimulus
 
-module _ (named : List Text) (told told' : Option Written) (made made' : Option Made) (f f' n n' : ℕ) (s : Status) (c : Command) (h : HostView) (b : Built) (bytes : Bytes) (created : made' ≡ made) where
+module _ (named : List Text) (told told' : Option Written) (made made' : Option Made) (f f' n n' : ℕ) (s : Status) (c : Command) (h : HostView) (b : Built) (bytes : Bytes) where
   abbrev Exactly : Answer → Type 0
   Exactly a = a ≡ bytes_answer c h b bytes
 
-  stim_refused : (fault : StimFault) → stim_acts (design_ports b.design) bytes ≡ Err fault → Refuses s (stimulus_text fault) told told' f f' → Table Exactly s named told told' made made' f f' n n'
-  stim_refused fault is refuses = refusal_ends Exactly named told told' made made' f f' n n' s (stimulus_text fault) (sym (ap (acts_answer c h b) is)) created refuses
+  -- it has acts
+  pub acts_run : (acts : List Act) → stim_acts (design_ports b.design) bytes ≡ Ok acts → Table (λ a. a ≡ Texts (run_output c h b acts)) s named told told' made made' f f' n n' → Table Exactly s named told told' made made' f f' n n'
+  acts_run acts is t = table_weaker (λ a. a ≡ Texts (run_output c h b acts)) Exactly s named told told' made made' f f' n n' (λ (a : Answer) e. e ∙ sym (ap (acts_answer c h b) is)) t
 
-  pub stimulus_ends : (fault : StimFault) → (fault ≢ stim.NoMemory → stim_acts (design_ports b.design) bytes ≡ Err fault) → RefusesStimulus s fault told told' f f' → Table Exactly s named told told' made made' f f' n n'
-  stimulus_ends stim.NoMemory is refuses = memory_ends Exactly named told told' made made' f f' n n' s (bytes_answer c h b bytes, refl) created refuses
-  stimulus_ends (stim.BadLine line) is refuses = stim_refused (stim.BadLine line) (is (λ e. cc e)) refuses
-  stimulus_ends (stim.UnknownInput line) is refuses = stim_refused (stim.UnknownInput line) (is (λ e. cc e)) refuses
-  stimulus_ends (stim.ValueTooWide line) is refuses = stim_refused (stim.ValueTooWide line) (is (λ e. cc e)) refuses
-  stimulus_ends (stim.TooManyEvals line) is refuses = stim_refused (stim.TooManyEvals line) (is (λ e. cc e)) refuses
+  stim_refused : made' ≡ made → (fault : StimFault) → stim_acts (design_ports b.design) bytes ≡ Err fault → Refuses s (stimulus_text fault) told told' f f' → Table Exactly s named told told' made made' f f' n n'
+  stim_refused created fault is refuses = refusal_ends Exactly named told told' made made' f f' n n' s (stimulus_text fault) (sym (ap (acts_answer c h b) is)) created refuses
+
+  -- it is refused
+  pub stimulus_ends : made' ≡ made → (fault : StimFault) → (fault ≢ stim.NoMemory → stim_acts (design_ports b.design) bytes ≡ Err fault) → RefusesStimulus s fault told told' f f' → Table Exactly s named told told' made made' f f' n n'
+  stimulus_ends created stim.NoMemory is refuses = memory_ends Exactly named told told' made made' f f' n n' s (bytes_answer c h b bytes, refl) created refuses
+  stimulus_ends created (stim.BadLine line) is refuses = stim_refused created (stim.BadLine line) (is (λ e. cc e)) refuses
+  stimulus_ends created (stim.UnknownInput line) is refuses = stim_refused created (stim.UnknownInput line) (is (λ e. cc e)) refuses
+  stimulus_ends created (stim.ValueTooWide line) is refuses = stim_refused created (stim.ValueTooWide line) (is (λ e. cc e)) refuses
+  stimulus_ends created (stim.TooManyEvals line) is refuses = stim_refused created (stim.TooManyEvals line) (is (λ e. cc e)) refuses
 
 -- ---- the model
 

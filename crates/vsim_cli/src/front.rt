@@ -51,7 +51,7 @@ fn asked(names: &Names, top: &Option<Text>) -> Result<Option<NameId>, NoSuchName
 fn check_laid<W: World, H: Host>(
     alloc: Global,
     world: &mut W,
-    command: &Command,
+    command: &Command<'_>,
     stim: &Option<Vec<u8>>,
     names: &Names,
     tree: &SourceTree,
@@ -66,7 +66,7 @@ fn check_laid<W: World, H: Host>(
 {
     match elaborate(alloc, tree, names, name) {
         Ok(scopes) => model_laid(alloc, world, command, stim, names, tree, &scopes, host),
-        Err(fault) => refuse_design(world, &command.files, names, fault),
+        Err(fault) => refuse_design(world, command.files, names, fault),
     }
 }
 
@@ -74,7 +74,7 @@ fn check_laid<W: World, H: Host>(
 fn check_design<W: World, H: Host>(
     alloc: Global,
     world: &mut W,
-    command: &Command,
+    command: &Command<'_>,
     stim: &Option<Vec<u8>>,
     names: &Names,
     tree: &SourceTree,
@@ -87,7 +87,7 @@ fn check_design<W: World, H: Host>(
 {
     match asked(names, &command.top) {
         Ok(name) => check_laid(alloc, world, command, stim, names, tree, name, host),
-        Err(NoSuchName) => refuse_design(world, &command.files, names, DesignFault::NoTop),
+        Err(NoSuchName) => refuse_design(world, command.files, names, DesignFault::NoTop),
     }
 }
 
@@ -95,7 +95,7 @@ fn check_design<W: World, H: Host>(
 fn check_syntax<W: World, H: Host>(
     alloc: Global,
     world: &mut W,
-    command: &Command,
+    command: &Command<'_>,
     stim: &Option<Vec<u8>>,
     names: &Names,
     tokens: &[Token],
@@ -111,7 +111,7 @@ fn check_syntax<W: World, H: Host>(
 {
     match parse(alloc, tokens, names) {
         Ok(tree) => check_design(alloc, world, command, stim, names, &tree, host),
-        Err(fault) => refuse_parsing(world, &command.files, names, tokens, fault),
+        Err(fault) => refuse_parsing(world, command.files, names, tokens, fault),
     }
 }
 
@@ -119,7 +119,7 @@ fn check_syntax<W: World, H: Host>(
 fn check_active<W: World, H: Host>(
     alloc: Global,
     world: &mut W,
-    command: &Command,
+    command: &Command<'_>,
     stim: &Option<Vec<u8>>,
     names: &Names,
     tokens: &[Token],
@@ -134,7 +134,7 @@ fn check_active<W: World, H: Host>(
 {
     match check_numbers(tokens, names) {
         Ok(()) => check_syntax(alloc, world, command, stim, names, tokens, host),
-        Err(k) => refuse_number(world, &command.files, tokens, k),
+        Err(k) => refuse_number(world, command.files, tokens, k),
     }
 }
 
@@ -142,7 +142,7 @@ fn check_active<W: World, H: Host>(
 fn check_tokens<W: World, H: Host>(
     alloc: Global,
     world: &mut W,
-    command: &Command,
+    command: &Command<'_>,
     stim: &Option<Vec<u8>>,
     names: &Names,
     tokens: &[Vec<Token>],
@@ -156,7 +156,7 @@ fn check_tokens<W: World, H: Host>(
 {
     match preprocess(alloc, tokens, names) {
         Ok(active) => check_active(alloc, world, command, stim, names, &active, host),
-        Err(fault) => refuse_preprocessing(world, &command.files, names, fault),
+        Err(fault) => refuse_preprocessing(world, command.files, names, fault),
     }
 }
 
@@ -164,7 +164,7 @@ fn check_tokens<W: World, H: Host>(
 pub fn check_files<W: World, H: Host>(
     alloc: Global,
     world: &mut W,
-    command: &Command,
+    command: &Command<'_>,
     stim: &Option<Vec<u8>>,
     contents: &[Vec<u8>],
     host: H,
@@ -181,6 +181,6 @@ pub fn check_files<W: World, H: Host>(
     };
     match lex_files(alloc, contents, &mut names) {
         Ok(tokens) => check_tokens(alloc, world, command, stim, &names, &tokens, host),
-        Err(fault) => refuse_lexing(world, &command.files, fault),
+        Err(fault) => refuse_lexing(world, command.files, fault),
     }
 }

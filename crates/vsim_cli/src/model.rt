@@ -70,7 +70,7 @@ fn end_run<W: World>(world: &mut W, texts: &Texts, fault: SessionFault) -> Statu
 fn run_acts<W: World, H: Host>(
     alloc: Global,
     world: &mut W,
-    command: &Command,
+    command: &Command<'_>,
     built: &Built,
     acts: &[Act],
     host: H,
@@ -94,7 +94,7 @@ fn run_acts<W: World, H: Host>(
 fn run_stimulus<W: World, H: Host>(
     alloc: Global,
     world: &mut W,
-    command: &Command,
+    command: &Command<'_>,
     stim: &[u8],
     built: &Built,
     host: H,
@@ -114,7 +114,7 @@ fn run_stimulus<W: World, H: Host>(
 fn run_built<W: World, H: Host>(
     alloc: Global,
     world: &mut W,
-    command: &Command,
+    command: &Command<'_>,
     stim: &Option<Vec<u8>>,
     built: &Built,
     host: H,
@@ -151,7 +151,7 @@ fn refuse_model<W: World>(world: &mut W, files: &[Text], fault: BuildFault) -> S
 pub fn model_laid<W: World, H: Host>(
     alloc: Global,
     world: &mut W,
-    command: &Command,
+    command: &Command<'_>,
     stim: &Option<Vec<u8>>,
     names: &Names,
     tree: &SourceTree,
@@ -169,6 +169,6 @@ pub fn model_laid<W: World, H: Host>(
     };
     match build(alloc, design, command.mode, &host) {
         Ok(built) => run_built(alloc, world, command, stim, &built, host),
-        Err(fault) => refuse_model(world, &command.files, fault),
+        Err(fault) => refuse_model(world, command.files, fault),
     }
 }

@@ -6,6 +6,9 @@ model_laid-requires-clause-laid g c =
     let r = c.in-Ok.ensures in
     record { name = c.args.name; asked = c.requires.asked; first = r.top; imports = r.imports; single = r.single }
 
-pub returns-in-Err-clause-table : goal.returns-in-Err-clause-table
-returns-in-Err-clause-table g c = λ named.
-    design_ends named _ _ _ _ _ _ _ _ _ _ c.refuse_design.ensures.rest.made_same c.args.names.now c.args.tree.now c.args.name c.requires.asked c.in-Err.fault c.in-Err.ensures.fault c.refuse_design.ensures.told
+pub returns-in-Err : goal.returns-in-Err
+returns-in-Err g c =
+    record {
+      table = λ named.
+          design_ends named _ _ _ _ _ _ _ _ _ _ c.refuse_design.ensures.rest.made_same c.args.names.now c.args.tree.now c.args.name c.requires.asked c.in-Err.fault c.in-Err.ensures.fault c.refuse_design.ensures.told;
+    }
