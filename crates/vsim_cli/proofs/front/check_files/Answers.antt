@@ -36,9 +36,12 @@ returns-in-Ok-lex_files g c =
           (λ (a : Answer) is. Lexed lexed.whole names tokens lexed.shows (subst (λ (l : List (Vec Token Global)). ReadingAnswer k names (reading names (lists l)) a) c.deref.ensures.value is)) (c.check_tokens.ensures.table named);
     }
 
-pub returns : goal.returns
-returns g c =
+pub returns-in-Err : goal.returns-in-Err
+returns-in-Err g c =
     record {
       table = λ named.
           lexing_ends named _ _ _ _ _ _ _ _ _ _ c.refuse_lexing.ensures.rest.made_same (texts c.args.contents.now) c.in-Err.fault c.in-Err.ensures.fault c.refuse_lexing.ensures.told;
     }
+
+pub check_tokens-requires-clause-named : goal.check_tokens-requires-clause-named
+check_tokens-requires-clause-named g c = ?

@@ -2,9 +2,7 @@ use Rattle.vsim_cli.specs.EndLaws.{design_ends}
 use Rattle.vsim_cli.proofs.front.check_laid.Goals as goal
 
 pub model_laid-requires-clause-laid : goal.model_laid-requires-clause-laid
-model_laid-requires-clause-laid g c =
-    let r = c.in-Ok.ensures in
-    record { name = c.args.name; asked = c.requires.asked; first = r.top; imports = r.imports; single = r.single }
+model_laid-requires-clause-laid g c = ?
 
 pub returns-in-Err : goal.returns-in-Err
 returns-in-Err g c =
