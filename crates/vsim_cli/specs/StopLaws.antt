@@ -41,9 +41,11 @@ module _ (w0 w1 w2 : Option Written) (m0 m1 m2 : Option Made) (f0 f1 f2 n0 n1 n2
     named = with_stim command.files stim
 
     -- they were all read
-    pub files_go_on : (contents : List Bytes) → IfSome told (λ world. all_read world command.files ≡ inr contents)
-        → Table (IsContentsAnswer command host stim told contents) s named w1 w2 m1 m2 f1 f2 n1 n2 → Table Allowed s named w0 w2 m0 m2 f0 f2 n0 n2
-    files_go_on contents found t = table_later (IsContentsAnswer command host stim told contents) Allowed s named w0 w1 w2 m0 m1 m2 f0 f1 f2 n0 n1 n2 (contents_answer command host stim told contents found) same made_same p q t
+    pub files_go_on : (contents : List Bytes) → IfSome told (λ world. all_read world command.files ≡ inr contents) → (told1 : Option Files) → told1 ≡ told
+        → Table (IsContentsAnswer command host stim told1 contents) s named w1 w2 m1 m2 f1 f2 n1 n2 → Table Allowed s named w0 w2 m0 m2 f0 f2 n0 n2
+    files_go_on contents found told1 e t =
+        table_later (IsContentsAnswer command host stim told1 contents) Allowed s named w0 w1 w2 m0 m1 m2 f0 f1 f2 n0 n1 n2
+        (λ (a : Answer) is. contents_answer command host stim told contents found a (subst (λ (x : Option Files). IsContentsAnswer command host stim x contents a) e is)) same made_same p q t
 
     -- they were not
     pub stop_ends : (x : Stop) → StopCause x told command.files f0 f1 n0 n1 → m2 ≡ m1 → f1 ≤ f2 → n1 ≤ n2 → StopsWith s x command.files w1 w2 f1 f2 → Table Allowed s named w0 w2 m0 m2 f0 f2 n0 n2
@@ -59,34 +61,47 @@ module _ (w0 w1 w2 : Option Written) (m0 m1 m2 : Option Made) (f0 f1 f2 n0 n1 n2
 
   -- ---- the stimulus
 
-  module _ (command : Command) (host : HostView) (name : Text) (told : Option Files) (contents : List Bytes) where
-    abbrev AllowedStim : Answer → Type 0
-    AllowedStim = IsContentsAnswer command host (Some name) told contents
+  module _ (command : Command) (host : HostView) (stim : Option Text) (name : Text) (is : stim ≡ Some name) (told : Option Files) (contents : List Bytes) where
+    abbrev AllowedName : Answer → Type 0
+    AllowedName = IsContentsAnswer command host (Some name) told contents
 
     abbrev named_stim : List Text
     named_stim = command.files ++ name ∷ []
 
-    pub stim_goes_on : (v : Vec ℕ Global) → IfSome told (λ files. IsInput (files name) (Some v)) → Table (BytesAnswer (case_of command host (Some v.items)) contents) s named_stim w1 w2 m1 m2 f1 f2 n1 n2
-        → Table AllowedStim s named_stim w0 w2 m0 m2 f0 f2 n0 n2
-    stim_goes_on v found t = table_later (BytesAnswer (case_of command host (Some v.items)) contents) AllowedStim s named_stim w0 w1 w2 m0 m1 m2 f0 f1 f2 n0 n1 n2
-        (stim_answer command host name told contents v.items (stim_there name told v found)) same made_same p q t
+    from_name : Table AllowedName s named_stim w0 w2 m0 m2 f0 f2 n0 n2 → Table (IsContentsAnswer command host stim told contents) s (with_stim command.files stim) w0 w2 m0 m2 f0 f2 n0 n2
+    from_name t = subst (λ (x : Option Text). Table (IsContentsAnswer command host x told contents) s (with_stim command.files x) w0 w2 m0 m2 f0 f2 n0 n2) (sym is) t
 
-    pub stim_is_long : IfSome told (λ files. IsInput (files name) None) → m2 ≡ m1 → Refuses s (too_long name) w1 w2 f1 f2 → Table AllowedStim s named_stim w0 w2 m0 m2 f0 f2 n0 n2
-    stim_is_long found kept said =
-        table_later AllowedStim AllowedStim s named_stim w0 w1 w2 m0 m1 m2 f0 f1 f2 n0 n1 n2 (λ (a : Answer) is. is) same made_same p q
-        (refusal_ends AllowedStim named_stim w1 w2 m1 m2 f1 f2 n1 n2 s (too_long name) (stim_stopped command host name told contents (Refused (too_long name)) (stim_long name told found)) kept said)
+    -- it was read
+    pub stim_goes_on : (v : Vec ℕ Global) → IfSome told (λ files. IsInput (files name) (Some v)) → ((list : List Text) → Table (BytesAnswer (case_of command host (Some v.items)) contents) s list w1 w2 m1 m2 f1 f2 n1 n2)
+        → Table (IsContentsAnswer command host stim told contents) s (with_stim command.files stim) w0 w2 m0 m2 f0 f2 n0 n2
+    stim_goes_on v found t = from_name
+        (table_later (BytesAnswer (case_of command host (Some v.items)) contents) AllowedName s named_stim w0 w1 w2 m0 m1 m2 f0 f1 f2 n0 n1 n2 (stim_answer command host name told contents v.items (stim_there name told v found)) same made_same p q (t named_stim))
 
-    pub stim_unread : (fault : InputFault) → InputCause fault told name f0 f1 n0 n1 → m2 ≡ m1 → f1 ≤ f2 → n1 ≤ n2 → Unreads s fault name w1 w2 f1 f2 → Table AllowedStim s named_stim w0 w2 m0 m2 f0 f2 n0 n2
-    stim_unread fault cause kept r t said =
-        unread_table AllowedStim named_stim name told w0 w1 w2 m0 m1 m2 f0 f0 f1 f2 n0 n0 n1 n2 s fault (some_told_contents command host (Some name) told contents) (among_last command.files name)
-        (λ missing. stim_absent command host name told contents missing) cause (omega arith) p (omega arith) r t same made_same kept said
+    -- it is too long
+    pub stim_is_long : IfSome told (λ files. IsInput (files name) None) → m2 ≡ m1 → (other : Text) → other ≡ name → Refuses s (too_long other) w1 w2 f1 f2
+        → Table (IsContentsAnswer command host stim told contents) s (with_stim command.files stim) w0 w2 m0 m2 f0 f2 n0 n2
+    stim_is_long found kept other e said = from_name
+        (table_later AllowedName AllowedName s named_stim w0 w1 w2 m0 m1 m2 f0 f1 f2 n0 n1 n2 (λ (a : Answer) is. is) same made_same p q
+        (refusal_ends AllowedName named_stim w1 w2 m1 m2 f1 f2 n1 n2 s (too_long name) (stim_stopped command host name told contents (Refused (too_long name)) (stim_long name told found)) kept
+        (subst (λ (n : Text). Refuses s (too_long n) w1 w2 f1 f2) e said)))
+
+    -- it was not read
+    pub stim_unread : (fault : InputFault) → InputCause fault told name f0 f1 n0 n1 → m2 ≡ m1 → f1 ≤ f2 → n1 ≤ n2 → (other : Text) → other ≡ name → Unreads s fault other w1 w2 f1 f2
+        → Table (IsContentsAnswer command host stim told contents) s (with_stim command.files stim) w0 w2 m0 m2 f0 f2 n0 n2
+    stim_unread fault cause kept r t other e said = from_name
+        (unread_table AllowedName named_stim name told w0 w1 w2 m0 m1 m2 f0 f0 f1 f2 n0 n0 n1 n2 s fault (some_told_contents command host (Some name) told contents) (among_last command.files name)
+        (λ missing. stim_absent command host name told contents missing) cause (omega arith) p (omega arith) r t same made_same kept
+        (subst (λ (n : Text). Unreads s fault n w1 w2 f1 f2) e said))
 
 -- ---- the words
 
 module _ (w0 w1 : Option Written) (m0 m1 : Option Made) (f0 f1 n0 n1 : ℕ) (st : Status) (words : List Text) (host : HostView) (told : Option Files) where
   -- a check has no stimulus
-  pub check_goes_on : (command : Command) (contents : List Bytes) (named : List Text) → Table (BytesAnswer (case_of command host None) contents) st named w0 w1 m0 m1 f0 f1 n0 n1 → Table (IsContentsAnswer command host None told contents) st named w0 w1 m0 m1 f0 f1 n0 n1
-  check_goes_on command contents named t = table_weaker (BytesAnswer (case_of command host None) contents) (IsContentsAnswer command host None told contents) st named w0 w1 m0 m1 f0 f1 n0 n1 (check_answer command host told contents) t
+  pub check_goes_on : (command : Command) (contents : List Bytes) (stim : Option Text) → stim ≡ None → ((list : List Text) → Table (BytesAnswer (case_of command host None) contents) st list w0 w1 m0 m1 f0 f1 n0 n1)
+      → Table (IsContentsAnswer command host stim told contents) st (with_stim command.files stim) w0 w1 m0 m1 f0 f1 n0 n1
+  check_goes_on command contents stim is t =
+      subst (λ (x : Option Text). Table (IsContentsAnswer command host x told contents) st (with_stim command.files x) w0 w1 m0 m1 f0 f1 n0 n1) (sym is)
+      (table_weaker (BytesAnswer (case_of command host None) contents) (IsContentsAnswer command host None told contents) st command.files w0 w1 m0 m1 f0 f1 n0 n1 (check_answer command host told contents) (t command.files))
 
   -- the words have settings
   settings_same : (s : Settings) → settings_of words ≡ Some s → Table (IsCommandAnswer (command_of s) host (stim_of s.action) told) st (with_stim s.files (stim_of s.action)) w0 w1 m0 m1 f0 f1 n0 n1

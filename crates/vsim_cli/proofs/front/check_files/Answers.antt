@@ -3,12 +3,13 @@ use Rattle.std.specs.Prelude.{Vec}
 use Rattle.std.specs.declared.alloc.Global.{Global}
 use Rattle.sv_tree.specs.declared.token.Token.{Token}
 use Rattle.sv_pp.specs.Active.{reading}
+use Rattle.sv_pp.specs.Answer.{AllNamed}
 use Rattle.run_status.specs.Answer.{Answer}
 use Rattle.run_status.specs.AnswerLaws.{table_weaker}
 use Rattle.vsim_cli.specs.Case.{case_of, command_by, host_view, bytes_by}
 use Rattle.vsim_cli.specs.Check.{ReadingAnswer, Lexed}
 use Rattle.vsim_cli.specs.CheckLaws.{some_bytes_answer}
-use Rattle.vsim_cli.specs.EndLaws.{memory_ends, lexing_ends}
+use Rattle.vsim_cli.specs.EndLaws.{all_named, memory_ends, lexing_ends}
 use Rattle.vsim_cli.proofs.front.check_files.Goals as goal
 
 abbrev texts : List (Vec ℕ Global) → List (List ℕ)
@@ -44,4 +45,6 @@ returns-in-Err g c =
     }
 
 pub check_tokens-requires-clause-named : goal.check_tokens-requires-clause-named
-check_tokens-requires-clause-named g c = ?
+check_tokens-requires-clause-named g c = λ lifetimes outlive.
+    let lexed = c.in-Ok-lex_files.ensures.tokens in
+    subst (λ (l : List (Vec Token Global)). AllNamed c.lex_files.new.names (lists l)) (sym c.deref.ensures.value) (all_named c.lex_files.new.names (lists c.in-Ok-lex_files.tokens.items) (texts c.args.contents.now) lexed.shows)

@@ -15,7 +15,7 @@ returns-in-Ok g c =
     let told = g.W.World.files c.args.world.now in
     let read = c.in-Ok.ensures in
     let found = subst (λ (l : List (Vec ℕ Global)). IfSome told (λ world. all_read world c.args.command.now.files.now ≡ inr (texts l))) (sym c.deref.ensures.value) read.found in
-    record { table = files_go_on _ _ _ _ _ _ _ _ _ _ _ _ _ read.rest.written_same read.rest.made_same read.rest.later read.rest.absent_later (command_by c.args.command.now) h c.args.stim.now told (texts c.deref.result.now) found ? }
+    record { table = files_go_on _ _ _ _ _ _ _ _ _ _ _ _ _ read.rest.written_same read.rest.made_same read.rest.later read.rest.absent_later (command_by c.args.command.now) h c.args.stim.now told (texts c.deref.result.now) found (g.W.World.files c.read_files.new.world) read.rest.files_same c.read_stimulus.ensures.table }
 
 pub returns-in-Err : goal.returns-in-Err
 returns-in-Err g c =
