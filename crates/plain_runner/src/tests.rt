@@ -1,13 +1,11 @@
-ghost use Rattle.std.specs.Prelude.{◌≡◌, ◌≤◌, [], ◌∷◌, ◌++◌, Some, true, length, map, slice_index, refl, IfOk};
-ghost use Rattle.std.specs.List.{list_all};
-ghost use Rattle.plan_graph.specs.GraphLaws.{rises};
+ghost use Rattle.std.specs.Prelude.{◌≡◌, ◌≤◌, [], ◌∷◌, Some, true, length, map, slice_index, refl, IfOk};
 ghost use Rattle.task_eval.specs.Soundness.{IsSound, IsWithin};
 ghost use Rattle.plan_types.specs.Coded.{AllWithin, code_count, code_number};
 ghost use Rattle.plan_types.specs.Machine.{input_vars, width_of};
 
 use super::*;
 use dpi_host::{Answers, CallRec, Host, NoMemory, argument};
-use plan_graph::{Edge, Graph, Node};
+use plan_graph::{Graph, Node};
 use plan_types::{Built, Runner, ValidPlan};
 use rtl_ir::{Design, Event, FlatScope, Import, Port, Proc, ProcKind, Var};
 use rtl_pieces::{BitRef, Layout, Word};
@@ -109,63 +107,99 @@ fn proc(alloc: Global, kind: ProcKind) -> Proc
     }
 }
 
-// Inputs clk and a; y = echo(a) + q; at a rising clk q <= q + 1, from 5 on.
+// The variables clk, a, y and q, of which q begins with 5.
+fn vars(alloc: Global) -> Result<Items<Var>, NoMemory>
+    ensures { IfOk result (λ vars. map (width_of vars) (0 ∷ 1 ∷ []) ≡ 1 ∷ 8 ∷ []) }
+{
+    let clk = var(alloc, 1, 0);
+    let a = var(alloc, 8, 0);
+    let y = var(alloc, 8, 0);
+    let q = var(alloc, 8, 5);
+    list(alloc, [clk, a, y, q])
+}
+
+// The ports clk, y and a, of which y is an output.
+fn ports(alloc: Global) -> Result<Items<Port>, NoMemory>
+    ensures { IfOk result (λ ports. input_vars ports ≡ 0 ∷ 1 ∷ []) }
+{
+    let clk = Port {
+        var: 0,
+        input: true,
+    };
+    let y = Port {
+        var: 2,
+        input: false,
+    };
+    let a = Port {
+        var: 1,
+        input: true,
+    };
+    list(alloc, [clk, y, a])
+}
+
+// y = echo(a) + q; at a rising clk q <= q + 1.
+fn procs(alloc: Global) -> Result<Items<Proc>, NoMemory>
+    ensures codes { IfOk result (λ procs. code_count procs ≡ 3) }
+    ensures commit { IfOk result (λ procs. code_number procs (Node.Commit 1) ≡ 2) }
+{
+    let edge = Event {
+        var: 0,
+        rising: true,
+    };
+    let events = list(alloc, [edge])?;
+    let comb = proc(alloc, ProcKind::Comb);
+    let clocked = proc(alloc, ProcKind::Clocked(events));
+    list(alloc, [comb, clocked])
+}
+
+// An import of 8 bits from 8 bits.
+fn imports(alloc: Global) -> Result<Items<Import>, NoMemory>
+    ensures { IfOk result (λ imports. length imports ≡ 1) }
+{
+    let eight = ValueType {
+        width: 8,
+        signed: false,
+    };
+    let args = list(alloc, [eight])?;
+    let import = Import {
+        name: text(alloc),
+        declared_pure: false,
+        args,
+        result: Some(eight),
+        at: NOWHERE,
+    };
+    list(alloc, [import])
+}
+
+fn scopes(alloc: Global) -> Result<Items<FlatScope>, NoMemory> {
+    let scope = FlatScope {
+        path: text(alloc),
+        parent: None,
+        block: false,
+    };
+    list(alloc, [scope])
+}
+
 fn design(alloc: Global) -> Result<Design, NoMemory>
     ensures codes { IfOk result (λ d. code_count d.procs ≡ 3) }
     ensures commit { IfOk result (λ d. code_number d.procs (Node.Commit 1) ≡ 2) }
     ensures imports { IfOk result (λ d. length d.imports ≡ 1) }
     ensures inputs { IfOk result (λ d. map (width_of d.vars) (input_vars d.ports) ≡ 1 ∷ 8 ∷ []) }
 {
-    let vars = list(
-        alloc,
-        [
-            var(alloc, 1, 0),
-            var(alloc, 8, 0),
-            var(alloc, 8, 0),
-            var(alloc, 8, 5),
-        ],
-    )?;
-    let edge = Event {
-        var: 0,
-        rising: true,
-    };
-    let clocked = ProcKind::Clocked(list(alloc, [edge])?);
-    let procs = list(alloc, [proc(alloc, ProcKind::Comb), proc(alloc, clocked)])?;
-    let eight = ValueType {
-        width: 8,
-        signed: false,
-    };
-    let import = Import {
-        name: text(alloc),
-        declared_pure: false,
-        args: list(alloc, [eight])?,
-        result: Some(eight),
-        at: NOWHERE,
-    };
-    let ports = list(
-        alloc,
-        [
-            Port {
-                var: 0,
-                input: true,
-            },
-            Port {
-                var: 2,
-                input: false,
-            },
-            Port {
-                var: 1,
-                input: true,
-            },
-        ],
-    )?;
-    let scope = FlatScope {
-        path: text(alloc),
-        parent: None,
-        block: false,
-    };
-    let imports = list(alloc, [import])?;
-    let scopes = list(alloc, [scope])?;
+    let vars = vars(alloc)?;
+    let procs = procs(alloc)?;
+    with_ports(alloc, vars, procs)
+}
+
+fn with_ports(alloc: Global, vars: Items<Var>, procs: Items<Proc>) -> Result<Design, NoMemory>
+    requires { map (width_of vars) (0 ∷ 1 ∷ []) ≡ 1 ∷ 8 ∷ [] }
+    ensures procs { IfOk result (λ d. d.procs ≡ procs) }
+    ensures imports { IfOk result (λ d. length d.imports ≡ 1) }
+    ensures inputs { IfOk result (λ d. map (width_of d.vars) (input_vars d.ports) ≡ 1 ∷ 8 ∷ []) }
+{
+    let ports = ports(alloc)?;
+    let imports = imports(alloc)?;
+    let scopes = scopes(alloc)?;
     match Design::new(vars, Items::new(alloc), procs, imports, ports, scopes) {
         Some(design) => Ok(design),
         None => Err(NoMemory),
@@ -186,20 +220,18 @@ fn word(item: u32, len: u32, shadow: bool) -> Word {
 fn layout(alloc: Global) -> Result<Layout, NoMemory>
     ensures { IfOk result (λ layout. length layout.words.items ≡ 6) }
 {
-    let Ok(words) = Vec::from_array(
-        alloc,
-        [
-            word(0, 0, false),
-            word(0, 1, false),
-            word(1, 8, false),
-            word(2, 8, false),
-            word(3, 8, false),
-            word(3, 8, true),
-        ],
-    ) else {
-        return Err(NoMemory);
-    };
-    Ok(Layout { words })
+    let words = [
+        word(0, 0, false),
+        word(0, 1, false),
+        word(1, 8, false),
+        word(2, 8, false),
+        word(3, 8, false),
+        word(3, 8, true),
+    ];
+    match Vec::from_array(alloc, words) {
+        Ok(words) => Ok(Layout { words }),
+        Err(_) => Err(NoMemory),
+    }
 }
 
 const ADD: Op = Op::Two {
@@ -208,19 +240,21 @@ const ADD: Op = Op::Two {
     signed: false,
 };
 
-fn code<const N: usize>(alloc: Global, ops: [Op; N], stack: u32) -> Result<Code, NoMemory>
-    requires sound { IsSound stack ops }
-    requires within { IsWithin 6 1 ops }
+fn code(alloc: Global, ops: &[Op]) -> Result<Code, NoMemory>
+    requires sound { IsSound 2 ops.now }
+    requires within { IsWithin 6 1 ops.now }
     ensures { IfOk result (λ code. IsWithin 6 1 code.ops) }
 {
-    Ok(Code::new(list(alloc, ops)?, stack))
+    match Items::from_slice(alloc, ops) {
+        Ok(ops) => Ok(Code::new(ops, 2)),
+        Err(_) => Err(NoMemory),
+    }
 }
 
-fn codes(alloc: Global) -> Result<Items<Code>, NoMemory>
-    ensures within { IfOk result (λ codes. AllWithin 6 1 codes) }
-    ensures many { IfOk result (λ codes. length codes ≡ 3) }
+fn comb(alloc: Global) -> Result<Code, NoMemory>
+    ensures { IfOk result (λ code. IsWithin 6 1 code.ops) }
 {
-    let comb = [
+    let ops = [
         Op::Load { word: 2, width: 8 },
         Op::Call {
             import: 0,
@@ -231,38 +265,54 @@ fn codes(alloc: Global) -> Result<Items<Code>, NoMemory>
         ADD,
         Op::Store { word: 3, width: 8 },
     ];
-    let body = [
+    code(alloc, &ops)
+}
+
+fn body(alloc: Global) -> Result<Code, NoMemory>
+    ensures { IfOk result (λ code. IsWithin 6 1 code.ops) }
+{
+    let ops = [
         Op::Load { word: 4, width: 8 },
         Op::Push(Bits::new(8, 1)),
         ADD,
         Op::Store { word: 5, width: 8 },
     ];
-    let commit = [
+    code(alloc, &ops)
+}
+
+fn commit(alloc: Global) -> Result<Code, NoMemory>
+    ensures { IfOk result (λ code. IsWithin 6 1 code.ops) }
+{
+    let ops = [
         Op::Load { word: 5, width: 8 },
         Op::Store { word: 4, width: 8 },
     ];
-    let comb = code(alloc, comb, 2)?;
-    let body = code(alloc, body, 2)?;
-    let commit = code(alloc, commit, 1)?;
+    code(alloc, &ops)
+}
+
+fn codes(alloc: Global) -> Result<Items<Code>, NoMemory>
+    ensures within { IfOk result (λ codes. AllWithin 6 1 codes) }
+    ensures many { IfOk result (λ codes. length codes ≡ 3) }
+{
+    let comb = comb(alloc)?;
+    let body = body(alloc)?;
+    let commit = commit(alloc)?;
     list(alloc, [comb, body, commit])
 }
 
-fn plan<const N: usize, const M: usize>(
-    alloc: Global,
-    nodes: [Node; N],
-    costs: [u32; N],
-    edges: [Edge; M],
-) -> Result<ValidPlan, NoMemory>
-    requires { list_all rises edges ≡ true }
-    ensures { IfOk result (λ plan. plan.nodes ≡ nodes) }
+// The plan of nodes with their costs, and no edge.
+fn plan(alloc: Global, nodes: &[Node], costs: &[u32]) -> Result<ValidPlan, NoMemory>
+    requires { length costs.now ≡ length nodes.now }
+    ensures { IfOk result (λ plan. plan.nodes ≡ nodes.now) }
 {
-    let costs = list(alloc, costs)?;
-    let edges = list(alloc, edges)?;
-    match Graph::new(costs, edges) {
-        Some(graph) => {
-            let nodes = list(alloc, nodes)?;
-            ValidPlan::one_task(alloc, nodes, graph)
-        }
+    let Ok(nodes) = Items::from_slice(alloc, nodes) else {
+        return Err(NoMemory);
+    };
+    let Ok(costs) = Items::from_slice(alloc, costs) else {
+        return Err(NoMemory);
+    };
+    match Graph::new(costs, Items::new(alloc)) {
+        Some(graph) => ValidPlan::one_task(alloc, nodes, graph),
         None => Err(NoMemory),
     }
 }
@@ -281,10 +331,9 @@ fn parts(alloc: Global) -> Result<Pieces, NoMemory>
     ensures clocked { IfOk result (λ parts. parts.clocked.nodes ≡ Node.Body 1 ∷ Node.Commit 1 ∷ Node.Comb 0 ∷ []) }
 {
     let layout = layout(alloc)?;
-    let edges = [Edge { from: 0, to: 1 }, Edge { from: 1, to: 2 }];
+    let settle = plan(alloc, &[Node::Comb(0)], &[22])?;
     let nodes = [Node::Body(1), Node::Commit(1), Node::Comb(0)];
-    let clocked = plan(alloc, nodes, [3, 1, 22], edges)?;
-    let settle = plan(alloc, [Node::Comb(0)], [22], [])?;
+    let clocked = plan(alloc, &nodes, &[3, 1, 22])?;
     Ok(Pieces {
         layout,
         settle,
@@ -292,20 +341,24 @@ fn parts(alloc: Global) -> Result<Pieces, NoMemory>
     })
 }
 
-// What the import is.
+// The codes, and what is told of the import.
 #[derive(Drop)]
-struct ImportFacts {
+struct Coded {
+    codes: Items<Code>,
     deemed: Items<bool>,
     ids: Items<u32>,
 }
 
-fn imports(alloc: Global, deemed: bool) -> Result<ImportFacts, NoMemory>
-    ensures deemed { IfOk result (λ imports. length imports.deemed ≡ 1) }
-    ensures ids { IfOk result (λ imports. length imports.ids ≡ 1) }
+fn facts(alloc: Global, deemed: bool) -> Result<Coded, NoMemory>
+    ensures within { IfOk result (λ c. AllWithin 6 1 c.codes) }
+    ensures many { IfOk result (λ c. length c.codes ≡ 3) }
+    ensures deemed { IfOk result (λ c. length c.deemed ≡ 1) }
+    ensures ids { IfOk result (λ c. length c.ids ≡ 1) }
 {
+    let codes = codes(alloc)?;
     let deemed = list(alloc, [deemed])?;
     let ids = list(alloc, [0])?;
-    Ok(ImportFacts { deemed, ids })
+    Ok(Coded { codes, deemed, ids })
 }
 
 // The model, where the import is deemed safe or not.
@@ -314,17 +367,16 @@ fn model(alloc: Global, deemed: bool) -> Result<Built, NoMemory>
     ensures inputs { IfOk result (λ built. map (width_of built.design.vars) (input_vars built.design.ports) ≡ 1 ∷ 8 ∷ []) }
 {
     let design = design(alloc)?;
-    let codes = codes(alloc)?;
     let parts = parts(alloc)?;
-    let imports = imports(alloc, deemed)?;
+    let facts = facts(alloc, deemed)?;
     Ok(Built {
         design,
         layout: parts.layout,
-        codes,
+        codes: facts.codes,
         settle: parts.settle,
         clocked: parts.clocked,
-        deemed: imports.deemed,
-        ids: imports.ids,
+        deemed: facts.deemed,
+        ids: facts.ids,
     })
 }
 

@@ -1,7 +1,5 @@
 //! A model with an input `a` and an output `y`, each of 8 bits, and one process: y = echo(a).
-ghost use Rattle.std.specs.Prelude.{◌≡◌, ◌≤◌, [], ◌∷◌, true, length, IfOk};
-ghost use Rattle.std.specs.List.{list_all};
-ghost use Rattle.plan_graph.specs.GraphLaws.{rises};
+ghost use Rattle.std.specs.Prelude.{◌≡◌, ◌≤◌, [], ◌∷◌, length, IfOk};
 ghost use Rattle.task_eval.specs.Soundness.{IsSound, IsWithin};
 ghost use Rattle.plan_types.specs.Coded.{AllWithin, code_count};
 
@@ -117,7 +115,7 @@ struct Logic {
     imports: Items<Import>,
 }
 
-fn logic(alloc: Global) -> Result<Logic, NoMemory>
+fn logic_of(alloc: Global) -> Result<Logic, NoMemory>
     ensures procs { IfOk result (λ logic. code_count logic.procs ≡ 1) }
     ensures imports { IfOk result (λ logic. length logic.imports ≡ 1) }
 {
@@ -130,7 +128,7 @@ fn design(alloc: Global) -> Result<Design, NoMemory>
     ensures procs { IfOk result (λ d. code_count d.procs ≡ 1) }
     ensures imports { IfOk result (λ d. length d.imports ≡ 1) }
 {
-    let logic = logic(alloc)?;
+    let logic = logic_of(alloc)?;
     let vars = vars(alloc)?;
     let ports = ports(alloc)?;
     let Ok(scopes) = scopes(alloc) else {
@@ -173,12 +171,15 @@ fn layout(alloc: Global) -> Result<Layout, NoMemory>
     Ok(Layout { words })
 }
 
-fn code<const N: usize>(alloc: Global, ops: [Op; N]) -> Result<Code, NoMemory>
-    requires sound { IsSound 1 ops }
-    requires within { IsWithin 3 1 ops }
+fn code(alloc: Global, ops: &[Op]) -> Result<Code, NoMemory>
+    requires sound { IsSound 1 ops.now }
+    requires within { IsWithin 3 1 ops.now }
     ensures { IfOk result (λ code. IsWithin 3 1 code.ops) }
 {
-    Ok(Code::new(list(alloc, ops)?, 1))
+    match Items::from_slice(alloc, ops) {
+        Ok(ops) => Ok(Code::new(ops, 1)),
+        Err(_) => Err(NoMemory),
+    }
 }
 
 fn codes(alloc: Global) -> Result<Items<Code>, NoMemory>
@@ -194,19 +195,23 @@ fn codes(alloc: Global) -> Result<Items<Code>, NoMemory>
         },
         Op::Store { word: 2, width: 8 },
     ];
-    let code = code(alloc, ops)?;
+    let code = code(alloc, &ops)?;
     list(alloc, [code])
 }
 
-fn plan<const N: usize>(alloc: Global, nodes: [Node; N], costs: [u32; N]) -> Result<ValidPlan, NoMemory>
-    ensures { IfOk result (λ plan. plan.nodes ≡ nodes) }
+// The plan of nodes with their costs, and no edge.
+fn plan(alloc: Global, nodes: &[Node], costs: &[u32]) -> Result<ValidPlan, NoMemory>
+    requires { length costs.now ≡ length nodes.now }
+    ensures { IfOk result (λ plan. plan.nodes ≡ nodes.now) }
 {
-    let costs = list(alloc, costs)?;
+    let Ok(nodes) = Items::from_slice(alloc, nodes) else {
+        return Err(NoMemory);
+    };
+    let Ok(costs) = Items::from_slice(alloc, costs) else {
+        return Err(NoMemory);
+    };
     match Graph::new(costs, Items::new(alloc)) {
-        Some(graph) => {
-            let nodes = list(alloc, nodes)?;
-            ValidPlan::one_task(alloc, nodes, graph)
-        }
+        Some(graph) => ValidPlan::one_task(alloc, nodes, graph),
         None => Err(NoMemory),
     }
 }
@@ -218,12 +223,12 @@ struct Parts {
     clocked: ValidPlan,
 }
 
-fn parts(alloc: Global) -> Result<Parts, NoMemory>
+fn parts_of(alloc: Global) -> Result<Parts, NoMemory>
     ensures settle { IfOk result (λ parts. parts.settle.nodes ≡ Node.Comb 0 ∷ []) }
     ensures clocked { IfOk result (λ parts. parts.clocked.nodes ≡ []) }
 {
-    let settle = plan(alloc, [Node::Comb(0)], [21])?;
-    let clocked = plan(alloc, [], [])?;
+    let settle = plan(alloc, &[Node::Comb(0)], &[21])?;
+    let clocked = plan(alloc, &[], &[])?;
     Ok(Parts { settle, clocked })
 }
 
@@ -251,7 +256,7 @@ struct Course {
     parts: Parts,
 }
 
-fn course(alloc: Global) -> Result<Course, NoMemory>
+fn course_of(alloc: Global) -> Result<Course, NoMemory>
     ensures words { IfOk result (λ course. length course.layout.words.items ≡ 3) }
     ensures within { IfOk result (λ course. AllWithin 3 1 course.codes) }
     ensures many { IfOk result (λ course. length course.codes ≡ 1) }
@@ -260,7 +265,7 @@ fn course(alloc: Global) -> Result<Course, NoMemory>
 {
     let layout = layout(alloc)?;
     let codes = codes(alloc)?;
-    let parts = parts(alloc)?;
+    let parts = parts_of(alloc)?;
     Ok(Course {
         layout,
         codes,
@@ -271,7 +276,7 @@ fn course(alloc: Global) -> Result<Course, NoMemory>
 /// The model.
 pub fn model(alloc: Global) -> Result<Built, NoMemory> {
     let design = design(alloc)?;
-    let course = course(alloc)?;
+    let course = course_of(alloc)?;
     let facts = facts(alloc)?;
     Ok(Built {
         design,
