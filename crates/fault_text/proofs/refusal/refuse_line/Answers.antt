@@ -6,4 +6,4 @@ use Rattle.fault_text.proofs.refusal.refuse_line.Goals as goal
 pub returns-clause-told : goal.returns-clause-told
 returns-clause-told g c =
     subst (λ (d : List ℕ). Refuses c.refuse_about.result (codes "stimulus line " ++ d ++ c.args.end.now) (g.W.World.written c.args.world.now) (g.W.World.written c.refuse_about.new.world) (g.W.World.faults c.args.world.now) (g.W.World.faults c.refuse_about.new.world))
-        (c.as_bytes-line.ensures.value ∙ c.format.ensures.text) c.refuse_about.ensures.told
+    (c.as_bytes-line.ensures.value ∙ c.format.ensures.text) c.refuse_about.ensures.told
