@@ -1,8 +1,8 @@
 -- Each node of both parts has a code.
-use Rattle.std.proofs.Common.{◌≡◌, ℕ, zero, suc, ◌+◌, ◌-◌, ◌<◌, ◌≤◌, Bool, true, false, cond, not, ◌&&◌, List, [], ◌∷◌, ◌++◌, map, length, take, refl, sym, ap, ◌∙◌, arith}
-use Rattle.std.specs.Prelude.{nat_lt, slice_index, if◌then◌else◌}
+use Rattle.std.proofs.Common.{◌≡◌, ℕ, zero, suc, ◌+◌, ◌-◌, ◌<◌, ◌≤◌, Bool, true, false, cond, not, List, [], ◌∷◌, ◌++◌, map, length, take, refl, sym, ap, ◌∙◌, arith}
+use Rattle.std.specs.Prelude.{nat_lt, slice_index}
 use Rattle.std.specs.List.{list_all, count_by, All}
-use Rattle.std.proofs.lemmas.Bool.{and_parts, and_from, lt-ltb, ltb-true, cases_Bool}
+use Rattle.std.proofs.lemmas.Bool.{and_parts, and_from, lt-ltb, ltb-true}
 use Rattle.std.proofs.lemmas.List.{length-map}
 use Rattle.std.proofs.lemmas.List.Sums.{sum_by-cons}
 use Rattle.rtl_ir.specs.declared.design.Proc.{Proc}
@@ -12,7 +12,7 @@ use Rattle.plan_graph.specs.declared.node.Node.{Node}
 use Rattle.plan_graph.specs.declared.node.Node.TheVariants as node
 use Rattle.plan_graph.specs.declared.node.Part.{Part}
 use Rattle.plan_graph.specs.declared.node.Part.TheVariants as part
-use Rattle.order_levels.specs.Serial.{numbers_from, comb_procs, clocked_procs, settle_nodes, clocked_nodes, serial_nodes}
+use Rattle.order_levels.specs.Serial.{numbers_from, clocked_procs, settle_nodes, clocked_nodes, serial_nodes}
 use Rattle.rtl_pieces.specs.Words.{is_clocked_kind}
 use Rattle.task_eval.specs.Codes.{Ops}
 use Rattle.task_eval.specs.Soundness.{IsWithin}
@@ -87,7 +87,7 @@ clocked_before at (p ∷ procs) k less = either (clocked_before (suc at) procs) 
     either others true e zero less =
         let none : at - at ≡ 0 = omega arith in
         let whole = sum_by-cons (λ (q : Proc). cond (coded.is_clocked q) 1 0) p procs in
-        let here : cond (coded.is_clocked p) 1 0 ≡ 1 = ap (λ (t : Bool). cond t 1 0) (of_kind p.kind e) in
+        let here : cond {A = ℕ} (coded.is_clocked p) 1 0 ≡ 1 = ap (λ (t : Bool). cond {A = ℕ} t 1 0) (of_kind p.kind e) in
         let taken : count_by coded.is_clocked (take (at - at) (p ∷ procs)) ≡ 0 = ap (λ (m : ℕ). count_by coded.is_clocked (take m (p ∷ procs))) none in
         record { low = omega arith; fewer = omega arith }
     either others true e (suc k) less = one_more at p procs (slice_index (numbers_from (suc at) (λ c. c) (map is_clocked procs)) k) (others k (omega arith))

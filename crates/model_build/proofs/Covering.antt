@@ -1,5 +1,5 @@
 -- The words of a design stand one behind the other, each bit in one of them, and the bits of a word have one writer.
-use Rattle.std.proofs.Common.{◌≡◌, ℕ, zero, suc, ◌+◌, ◌-◌, ◌<◌, ◌≤◌, Bool, true, false, cond, ◌&&◌, not, List, [], ◌∷◌, ◌++◌, map, length, Option, Some, None, refl, sym, ap, ◌∙◌, subst, arith, inl, inr, ◌⊎◌}
+use Rattle.std.proofs.Common.{◌≡◌, ℕ, zero, suc, ◌+◌, ◌-◌, ◌<◌, ◌≤◌, Bool, true, false, cond, ◌&&◌, not, List, [], ◌∷◌, ◌++◌, map, length, Option, refl, sym, ap, ◌∙◌, arith, inl, inr, ◌⊎◌}
 use Rattle.std.specs.Prelude.{nat_lt, nat_le, max, slice_index, if◌then◌else◌}
 use Rattle.std.specs.List.{list_all, list_any, All}
 use Rattle.std.proofs.lemmas.Bool.{and_parts, and_from, cases_Bool, ltb-true, ltb-false, leb-true, le-leb, lt-ltb, or_cases, or_left, or_right}
@@ -12,8 +12,8 @@ use Rattle.rtl_pieces.specs.declared.pieces.Piece.{Piece}
 use Rattle.rtl_pieces.specs.Line.{Line, inside, has, place_of}
 use Rattle.rtl_pieces.specs.Bits.{line_in}
 use Rattle.rtl_pieces.specs.Cover.{places_of}
-use Rattle.rtl_pieces.specs.Words.{writer_of, word_of, element_words, item_words, words_from, shadow_if, shadows_of, shadow_of, is_clocked, pieces_of, pieces_in, words_in, Tiles, IsPiece}
-use Rattle.model_build.specs.Cuts.{IsCut, words_of}
+use Rattle.rtl_pieces.specs.Words.{writer_of, word_of, element_words, item_words, words_from, shadow_if, shadows_of, is_clocked, pieces_of, pieces_in, words_in, Tiles, IsPiece}
+use Rattle.model_build.specs.Cuts.{IsCut}
 use Rattle.model_build.specs.Touching.{is_in}
 
 -- ---- no piece is a shadow

@@ -1,18 +1,16 @@
 -- That the edges between processes by their words are those by their bits, and that each word has one writer at most.
 use Rattle.std.proofs.Common.{◌≡◌, ℕ, zero, suc, ◌+◌, ◌<◌, ◌≤◌, ◌==◌, Bool, true, false, cond, ◌&&◌, ◌||◌, not, List, [], ◌∷◌, ◌++◌, length, Option, Some, None, max, min, refl, sym, ap, ◌∙◌, subst, arith, inl, inr, ◌⊎◌}
-use Rattle.std.specs.Prelude.{nat_lt, nat_le, slice_get, slice_index, if◌then◌else◌, ⊤}
+use Rattle.std.specs.Prelude.{nat_lt, nat_le, slice_get, ⊤}
 use Rattle.std.specs.List.{list_any, All}
 use Rattle.std.proofs.lemmas.Bool.{and_parts, and_from, cases_Bool, cases_eq, ltb-true, ltb-false, leb-true, le-leb, lt-ltb, or_cases, or_left, or_right}
 use Rattle.std.proofs.lemmas.List.Kept.{AllPairs-cons}
-use Rattle.plan_graph.specs.declared.node.Edge.{Edge}
 use Rattle.rtl_ir.specs.declared.design.Proc.{Proc}
 use Rattle.rtl_ir.specs.declared.whole.Design.{Design}
-use Rattle.rtl_pieces.specs.declared.range.BitRange.{BitRange}
 use Rattle.rtl_pieces.specs.declared.layout.Word.{Word}
 use Rattle.rtl_pieces.specs.Line.{Line, has}
-use Rattle.rtl_pieces.specs.Bits.{line_in, writes, reads, names, named_left}
+use Rattle.rtl_pieces.specs.Bits.{line_in, writes, reads, named_left}
 use Rattle.rtl_pieces.specs.Cover.{places_of}
-use Rattle.rtl_pieces.specs.Words.{writer_of, first_writer, words_in}
+use Rattle.rtl_pieces.specs.Words.{writer_of, first_writer}
 use Rattle.logic_graph.specs.declared.ranges.WordRange.{WordRange}
 use Rattle.logic_graph.specs.declared.ranges.Touched.{Touched}
 use Rattle.order_levels.specs.Serial.{numbers_from}
@@ -21,7 +19,7 @@ use Rattle.logic_graph.specs.Reading as words
 use Rattle.model_build.specs.Drivers.{OneDriver}
 use Rattle.model_build.specs.Cuts.{IsCut}
 use Rattle.task_code.specs.Compiled.{Each}
-use Rattle.model_build.specs.Touching.{IsTouched, WordsAre, is_in}
+use Rattle.model_build.specs.Touching.{IsTouched, WordsAre}
 use Rattle.model_build.specs.Settle.{some_below, feeds, edges_out, edges_from, read_edges, clocked_of, combs_of}
 use Rattle.model_build.proofs.Covering.{Stands, places_with, places_in, covered, same_writer, has_bits, bit_in, word_in}
 

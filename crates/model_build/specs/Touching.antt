@@ -1,5 +1,5 @@
 -- The words that processes touch: a word is read where a bit of it is, and written where a bit of it is.
-use Rattle.std.specs.Prelude.{◌≡◌, ℕ, suc, ◌+◌, ◌<◌, ◌≤◌, Bool, true, false, ◌&&◌, nat_lt, List, [], ◌∷◌, length, slice_index}
+use Rattle.std.specs.Prelude.{◌≡◌, ℕ, suc, Bool, ◌&&◌, nat_lt, List, length, slice_index}
 use Rattle.std.specs.List.{list_any}
 use Rattle.rtl_ir.specs.declared.design.Proc.{Proc}
 use Rattle.rtl_pieces.specs.declared.range.BitRange.{BitRange}

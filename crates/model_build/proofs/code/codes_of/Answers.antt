@@ -1,4 +1,4 @@
-use Rattle.std.proofs.Common.{◌≡◌, ◌+◌, ℕ, List, length, sym, ap, ◌∙◌, subst}
+use Rattle.std.proofs.Common.{◌+◌, ℕ, List, length, sym, ap, ◌∙◌, subst}
 use Rattle.task_eval.specs.Codes.{Ops}
 use Rattle.plan_types.specs.Coded.{AllWithin}
 use Rattle.model_build.proofs.Coding.{clocked_count, all_within}

@@ -1,4 +1,4 @@
-use Rattle.std.proofs.Common.{◌≡◌, ◌≤◌, ℕ, List, length, map, sym, ap, ◌∙◌, subst, arith}
+use Rattle.std.proofs.Common.{◌≡◌, ◌≤◌, ℕ, List, length, sym, ap, ◌∙◌, subst}
 use Rattle.std.specs.Prelude.{IfOk, IfErr, OnOk}
 use Rattle.std.proofs.lemmas.List.{length-map}
 use Rattle.plan_graph.specs.declared.node.Edge.{Edge}
@@ -13,7 +13,11 @@ use Rattle.model_build.proofs.Feeding.{edges_same, one_writer, each_length}
 use Rattle.model_build.proofs.settle.read_graph.Goals as goal
 
 pub graph-requires-clause-costs : goal.graph-requires-clause-costs
-graph-requires-clause-costs c = ?
+graph-requires-clause-costs c =
+    ap (λ (costs : List ℕ). length costs) c.in_ok-costs.ensures
+    ∙ length-map c.args.combs.now (cost_of c.as_slice.result.now)
+    ∙ sym (each_length (IsTouched (line_in c.args.design.now) c.args.design.now.procs (places_of 0 c.args.layout.now.words.items)) c.args.combs.now c.in_ok-touched.touched.items c.in_ok-touched.ensures)
+    ∙ sym (ap (λ (ts : List Touched). length ts) c.as_slice-2.ensures.value)
 
 pub graph-requires-clause-one_writer : goal.graph-requires-clause-one_writer
 graph-requires-clause-one_writer c =
