@@ -1,5 +1,5 @@
 -- What a command is answered, in the one order of refusals.
-use Rattle.std.specs.Prelude.{◌≡◌, ◌⊎◌, ◌≤◌, ◌<◌, ℕ, Bool, true, false, List, [], ◌∷◌, length, slice_get, Option, Some, None, IfSome, codes}
+use Rattle.std.specs.Prelude.{◌≡◌, ◌⊎◌, ◌≤◌, ◌<◌, ℕ, Bool, true, false, List, [], length, slice_get, Option, Some, None, IfSome, codes}
 use Rattle.std.proofs.Common.{inl, inr}
 use Rattle.std.specs.List.{position_from}
 use Rattle.vs_world.specs.Outside.{Files}

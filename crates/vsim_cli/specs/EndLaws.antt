@@ -1,8 +1,7 @@
 -- From what a stage found and wrote to what the status says.
-use Rattle.std.proofs.Common.{◌≡◌, ◌⊎◌, ◌≤◌, ◌<◌, ℕ, List, [], ◌∷◌, length, get_or, Option, Some, None, refl, sym, ap, ◌∙◌, subst, inl, inr, append-nil, arith, cond, ◌+◌}
+use Rattle.std.proofs.Common.{◌≡◌, ◌⊎◌, ◌≤◌, ◌<◌, ℕ, List, [], ◌∷◌, length, get_or, Option, Some, None, refl, sym, subst, inl, inr, arith, cond, ◌+◌}
 use Rattle.std.specs.Prelude.{Bool, true, false, zero, suc, codes, IfSome, is_some, slice_get}
 use Rattle.std.specs.List.{position_from}
-use Rattle.std.specs.Option.{option_map}
 use Rattle.vs_world.specs.Outside.{Files, Written, Made, IsMissing}
 use Rattle.sv_tree.specs.declared.names.NameId.{NameId}
 use Rattle.sv_tree.specs.declared.token.Token.{Token}

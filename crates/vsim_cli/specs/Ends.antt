@@ -7,7 +7,6 @@ use Rattle.run_status.specs.declared.status.Status.{Status}
 use Rattle.run_status.specs.declared.status.Status.TheVariants as status
 use Rattle.run_status.specs.Answer.{Tells, Refuses}
 use Rattle.run_status.specs.Lines.{not_created, not_written}
-use Rattle.fault_text.specs.FaultText.{out_of_memory}
 use Rattle.fault_text.specs.Refusal.{Wants}
 use Rattle.model_build.specs.declared.fault.BuildFault.{BuildFault}
 use Rattle.model_build.specs.declared.fault.BuildFault.TheVariants as fault

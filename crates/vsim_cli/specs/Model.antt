@@ -1,5 +1,5 @@
 -- What the model of a design is answered: that it is refused, or the texts of its run.
-use Rattle.std.specs.Prelude.{◌≡◌, ℕ, Bool, true, false, List, [], length, map, take, drop, Option, Some, None, Result, Ok, Err, is_some}
+use Rattle.std.specs.Prelude.{◌≡◌, ℕ, Bool, true, false, List, length, map, take, drop, Option, Some, None, Result, Ok, Err, is_some}
 use Rattle.std.specs.List.{All}
 use Rattle.vs_base.specs.declared.act.Act.{Act}
 use Rattle.sv_tree.specs.declared.tree.source.SourceTree.{SourceTree}

@@ -1,10 +1,10 @@
 -- From what the model and the stimulus are refused for to what the status says.
-use Rattle.std.proofs.Common.{◌≡◌, ℕ, List, Option, refl, sym, ap, ◌∙◌, subst}
-use Rattle.std.specs.Prelude.{◌≢◌, true, Result, Ok, Err}
+use Rattle.std.proofs.Common.{◌≡◌, ℕ, List, Option, refl, sym, ap, ◌∙◌}
+use Rattle.std.specs.Prelude.{◌≢◌, true, Ok, Err}
 use Rattle.vs_base.specs.declared.act.Act.{Act}
 use Rattle.vs_world.specs.Outside.{Written, Made}
 use Rattle.run_status.specs.declared.status.Status.{Status}
-use Rattle.run_status.specs.Answer.{Answer, Refused, Texts, Refuses, Table}
+use Rattle.run_status.specs.Answer.{Answer, Texts, Refuses, Table}
 use Rattle.run_status.specs.AnswerLaws.{refusal_ends, table_weaker}
 use Rattle.sv_tree.specs.declared.tree.source.SourceTree.{SourceTree}
 use Rattle.sv_elab.specs.declared.scope.Scope.{Scope}
@@ -17,9 +17,9 @@ use Rattle.model_build.specs.declared.fault.BuildFault.{BuildFault}
 use Rattle.model_build.specs.declared.fault.BuildFault.TheVariants as fault
 use Rattle.model_build.specs.Answer.{IsAccepted, IsFault}
 use Rattle.fault_text.specs.FaultText.{stimulus_text}
-use Rattle.fault_text.specs.Refusal.{Wants, RefusesStimulus}
+use Rattle.fault_text.specs.Refusal.{RefusesStimulus}
 use Rattle.vsim_cli.specs.Case.{Text, Bytes, Command, HostView, Case}
-use Rattle.vsim_cli.specs.Model.{IsFlat, uses_of, IsBuilt, run_output, acts_answer, bytes_answer, built_answer, is_of_model, model_text, ModelAnswer, Unbuilt, IsModel}
+use Rattle.vsim_cli.specs.Model.{IsFlat, uses_of, IsBuilt, run_output, acts_answer, bytes_answer, built_answer, is_of_model, model_text, Unbuilt, IsModel}
 use Rattle.vsim_cli.specs.Ends.{RefusesModel}
 use Rattle.vsim_cli.specs.Check.{IsLaid, DesignAnswer, Laid}
 use Rattle.vsim_cli.specs.CheckLaws.{some_design_answer}

@@ -1,14 +1,14 @@
 -- From what a run wrote to what the status says.
-use Rattle.std.proofs.Common.{◌≡◌, ◌⊎◌, ◌≤◌, ℕ, List, [], ◌∷◌, ◌++◌, Option, Some, None, refl, sym, ap, ◌∙◌, subst, inl, inr}
+use Rattle.std.proofs.Common.{◌≡◌, ◌≤◌, ℕ, List, [], ◌∷◌, ◌++◌, Option, Some, None, refl, sym, ◌∙◌, subst, inl, inr}
 use Rattle.std.specs.Prelude.{true}
 use Rattle.std.specs.Option.{option_map}
 use Rattle.std.proofs.lemmas.List.{append-nil}
 use Rattle.vs_world.specs.declared.world.Stream.{Stream}
 use Rattle.vs_world.specs.declared.world.Stream.TheVariants.{Calls, Vcd}
-use Rattle.vs_world.specs.Outside.{Written, Made, Rose}
+use Rattle.vs_world.specs.Outside.{Written, Made}
 use Rattle.run_status.specs.declared.status.Status.{Status}
 use Rattle.run_status.specs.declared.status.Status.TheVariants as status
-use Rattle.run_status.specs.Answer.{Answer, Texts as TextsOf, Output, only_files, Tells, Appends, AreFronts, Table}
+use Rattle.run_status.specs.Answer.{Answer, Texts as TextsOf, Output, only_files, Tells, Table}
 use Rattle.run_status.specs.AnswerLaws.{appends_none, files_first, run_done, create_failed, write_failed, run_wanting}
 use Rattle.run_status.specs.Lines.{not_created}
 use Rattle.sim_session.specs.declared.texts.Texts.{Texts}
@@ -16,7 +16,7 @@ use Rattle.sim_session.specs.declared.fault.SessionFault.{SessionFault}
 use Rattle.sim_session.specs.declared.fault.SessionFault.TheVariants as session
 use Rattle.sim_session.specs.Pieces.{Piece, Seen, wrote}
 use Rattle.sim_session.specs.Files.{files_of, and_made, named, NotCreated, RunEnded}
-use Rattle.sim_session.specs.Streams.{streamed, has_no_errors}
+use Rattle.sim_session.specs.Streams.{has_no_errors}
 use Rattle.sim_session.specs.StreamLaws.{wrote_is, run_begun, run_partly, failed_rose, failed_made}
 use Rattle.vsim_cli.specs.Case.{Text}
 use Rattle.vsim_cli.specs.Model.{output_by}

@@ -81,12 +81,7 @@ fn run_named<W: World, H: Host>(
 }
 
 // Does what the options ask for.
-fn run_options<W: World, H: Host>(
-    alloc: Global,
-    world: &mut W,
-    options: Options,
-    host: H,
-) -> Status
+fn run_options<W: World, H: Host>(alloc: Global, world: &mut W, options: Options, host: H) -> Status
     requires files { HasFiles options.files.items }
     requires calls { IsCreatable (W.made world.old) CallStream }
     requires vcd { IsCreatable (W.made world.old) VcdStream }

@@ -1,4 +1,4 @@
-use Rattle.std.proofs.Common.{List, length, map, sym, ap, ◌∙◌, subst, arith}
+use Rattle.std.proofs.Common.{List, length, map, ap, ◌∙◌, subst, arith}
 use Rattle.std.specs.Prelude.{Vec}
 use Rattle.std.specs.declared.alloc.Global.{Global}
 use Rattle.sv_tree.specs.declared.token.Token.{Token}

@@ -1,6 +1,6 @@
 use Rattle.std.proofs.Common.{◌≡◌, ◌++◌, ◌∷◌, [], Some, Option, IfSome, map, ap, ◌∙◌, subst, List, ℕ, zero, suc, ◌<◌, length, arith, sym, length-append}
 use Rattle.std.specs.Prelude.{Vec, drop, ◌+◌, ◌≤◌, All}
-use Rattle.std.proofs.lemmas.List.{map-append, length-map}
+use Rattle.std.proofs.lemmas.List.{map-append}
 use Rattle.std.proofs.lemmas.List.Elements.{All-append}
 use Rattle.std.specs.declared.alloc.Global.{Global}
 use Rattle.run_input.specs.Input.{IsInput}

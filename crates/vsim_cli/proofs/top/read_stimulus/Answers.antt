@@ -1,4 +1,4 @@
-use Rattle.std.proofs.Common.{◌≡◌, ℕ, List, [], map, Option, subst, arith}
+use Rattle.std.proofs.Common.{ℕ, List, [], map, Option, subst, arith}
 use Rattle.std.specs.Prelude.{Vec, IfSome}
 use Rattle.std.specs.declared.alloc.Global.{Global}
 use Rattle.run_input.specs.Input.{IsInput, InputCause}
