@@ -1,8 +1,8 @@
 -- Each node of both parts has a code.
-use Rattle.std.proofs.Common.{◌≡◌, ℕ, zero, suc, ◌+◌, ◌-◌, ◌<◌, ◌≤◌, Bool, true, false, cond, not, ◌&&◌, List, [], ◌∷◌, ◌++◌, map, length, take, refl, sym, ap, ◌∙◌, arith}
-use Rattle.std.specs.Prelude.{nat_lt, slice_index, if◌then◌else◌}
+use Rattle.std.proofs.Common.{◌≡◌, ℕ, zero, suc, ◌+◌, ◌-◌, ◌<◌, ◌≤◌, Bool, true, false, cond, not, List, [], ◌∷◌, ◌++◌, map, length, take, refl, sym, ap, ◌∙◌, arith}
+use Rattle.std.specs.Prelude.{nat_lt, slice_index}
 use Rattle.std.specs.List.{list_all, count_by, All}
-use Rattle.std.proofs.lemmas.Bool.{and_parts, and_from, lt-ltb, ltb-true, cases_Bool}
+use Rattle.std.proofs.lemmas.Bool.{and_parts, and_from, lt-ltb, ltb-true}
 use Rattle.std.proofs.lemmas.List.{length-map}
 use Rattle.std.proofs.lemmas.List.Sums.{sum_by-cons}
 use Rattle.rtl_ir.specs.declared.design.Proc.{Proc}
@@ -12,7 +12,7 @@ use Rattle.plan_graph.specs.declared.node.Node.{Node}
 use Rattle.plan_graph.specs.declared.node.Node.TheVariants as node
 use Rattle.plan_graph.specs.declared.node.Part.{Part}
 use Rattle.plan_graph.specs.declared.node.Part.TheVariants as part
-use Rattle.order_levels.specs.Serial.{numbers_from, comb_procs, clocked_procs, settle_nodes, clocked_nodes, serial_nodes}
+use Rattle.order_levels.specs.Serial.{numbers_from, clocked_procs, settle_nodes, clocked_nodes, serial_nodes}
 use Rattle.rtl_pieces.specs.Words.{is_clocked_kind}
 use Rattle.task_eval.specs.Codes.{Ops}
 use Rattle.task_eval.specs.Soundness.{IsWithin}
@@ -48,13 +48,14 @@ all_within words imports (code ∷ more) all = (all 0 code (omega arith), all_wi
 module _ (passes : Bool → Bool) where
   numbers_below : (at : ℕ) (marks : List Bool) (k : ℕ) → k < length (numbers_from at passes marks) → slice_index (numbers_from at passes marks) k < at + length marks
   numbers_below at [] k less = absurd (omega arith)
-  numbers_below at (m ∷ more) k less = either (passes m) k less
+  numbers_below at (m ∷ more) k less = either (numbers_below (suc at) more) (passes m) k less
     where
-      either : (t : Bool) (k : ℕ) → k < length (cond t (at ∷ numbers_from (suc at) passes more) (numbers_from (suc at) passes more))
+      either : ((j : ℕ) → j < length (numbers_from (suc at) passes more) → slice_index (numbers_from (suc at) passes more) j < suc at + length more)
+          → (t : Bool) (k : ℕ) → k < length (cond t (at ∷ numbers_from (suc at) passes more) (numbers_from (suc at) passes more))
           → slice_index (cond t (at ∷ numbers_from (suc at) passes more) (numbers_from (suc at) passes more)) k < at + suc (length more)
-      either true zero less = omega arith
-      either true (suc k) less = let rest = numbers_below (suc at) more k (omega arith) in omega arith
-      either false k less = let rest = numbers_below (suc at) more k less in omega arith
+      either others true zero less = omega arith
+      either others true (suc k) less = let rest = others k (omega arith) in omega arith
+      either others false k less = let rest = others k less in omega arith
 
 of_kind : (kind : ProcKind) → is_clocked_kind kind ≡ true → coded.is_clocked_kind kind ≡ true
 of_kind Comb is = absurd (let e : false ≡ true = is in cc)
@@ -78,18 +79,19 @@ one_more at p procs n is =
 
 clocked_before : (at : ℕ) (procs : List Proc) (k : ℕ) → k < length (numbers_from at (λ c. c) (map is_clocked procs)) → Before at procs (slice_index (numbers_from at (λ c. c) (map is_clocked procs)) k)
 clocked_before at [] k less = absurd (omega arith)
-clocked_before at (p ∷ procs) k less = either (is_clocked p) refl k less
+clocked_before at (p ∷ procs) k less = either (clocked_before (suc at) procs) (is_clocked p) refl k less
   where
-    either : (t : Bool) → is_clocked p ≡ t → (k : ℕ) → k < length (cond t (at ∷ numbers_from (suc at) (λ c. c) (map is_clocked procs)) (numbers_from (suc at) (λ c. c) (map is_clocked procs)))
+    either : ((j : ℕ) → j < length (numbers_from (suc at) (λ c. c) (map is_clocked procs)) → Before (suc at) procs (slice_index (numbers_from (suc at) (λ c. c) (map is_clocked procs)) j))
+        → (t : Bool) → is_clocked p ≡ t → (k : ℕ) → k < length (cond t (at ∷ numbers_from (suc at) (λ c. c) (map is_clocked procs)) (numbers_from (suc at) (λ c. c) (map is_clocked procs)))
         → Before at (p ∷ procs) (slice_index (cond t (at ∷ numbers_from (suc at) (λ c. c) (map is_clocked procs)) (numbers_from (suc at) (λ c. c) (map is_clocked procs))) k)
-    either true e zero less =
+    either others true e zero less =
         let none : at - at ≡ 0 = omega arith in
         let whole = sum_by-cons (λ (q : Proc). cond (coded.is_clocked q) 1 0) p procs in
-        let here : cond (coded.is_clocked p) 1 0 ≡ 1 = ap (λ (t : Bool). cond t 1 0) (of_kind p.kind e) in
+        let here : cond {A = ℕ} (coded.is_clocked p) 1 0 ≡ 1 = ap (λ (t : Bool). cond {A = ℕ} t 1 0) (of_kind p.kind e) in
         let taken : count_by coded.is_clocked (take (at - at) (p ∷ procs)) ≡ 0 = ap (λ (m : ℕ). count_by coded.is_clocked (take m (p ∷ procs))) none in
         record { low = omega arith; fewer = omega arith }
-    either true e (suc k) less = one_more at p procs (slice_index (numbers_from (suc at) (λ c. c) (map is_clocked procs)) k) (clocked_before (suc at) procs k (omega arith))
-    either false e k less = one_more at p procs (slice_index (numbers_from (suc at) (λ c. c) (map is_clocked procs)) k) (clocked_before (suc at) procs k less)
+    either others true e (suc k) less = one_more at p procs (slice_index (numbers_from (suc at) (λ c. c) (map is_clocked procs)) k) (others k (omega arith))
+    either others false e k less = one_more at p procs (slice_index (numbers_from (suc at) (λ c. c) (map is_clocked procs)) k) (others k less)
 
 -- ---- nodes
 

@@ -1,5 +1,5 @@
 -- The words of a design stand one behind the other, each bit in one of them, and the bits of a word have one writer.
-use Rattle.std.proofs.Common.{◌≡◌, ℕ, zero, suc, ◌+◌, ◌-◌, ◌<◌, ◌≤◌, Bool, true, false, cond, ◌&&◌, not, List, [], ◌∷◌, ◌++◌, map, length, Option, Some, None, refl, sym, ap, ◌∙◌, subst, arith, inl, inr, ◌⊎◌}
+use Rattle.std.proofs.Common.{◌≡◌, ℕ, zero, suc, ◌+◌, ◌-◌, ◌<◌, ◌≤◌, Bool, true, false, cond, ◌&&◌, not, List, [], ◌∷◌, ◌++◌, map, length, Option, refl, sym, ap, ◌∙◌, arith, inl, inr, ◌⊎◌}
 use Rattle.std.specs.Prelude.{nat_lt, nat_le, max, slice_index, if◌then◌else◌}
 use Rattle.std.specs.List.{list_all, list_any, All}
 use Rattle.std.proofs.lemmas.Bool.{and_parts, and_from, cases_Bool, ltb-true, ltb-false, leb-true, le-leb, lt-ltb, or_cases, or_left, or_right}
@@ -12,8 +12,8 @@ use Rattle.rtl_pieces.specs.declared.pieces.Piece.{Piece}
 use Rattle.rtl_pieces.specs.Line.{Line, inside, has, place_of}
 use Rattle.rtl_pieces.specs.Bits.{line_in}
 use Rattle.rtl_pieces.specs.Cover.{places_of}
-use Rattle.rtl_pieces.specs.Words.{writer_of, word_of, element_words, item_words, words_from, shadow_if, shadows_of, shadow_of, is_clocked, pieces_of, pieces_in, words_in, Tiles, IsPiece}
-use Rattle.model_build.specs.Cuts.{IsCut, words_of}
+use Rattle.rtl_pieces.specs.Words.{writer_of, word_of, element_words, item_words, words_from, shadow_if, shadows_of, is_clocked, pieces_of, pieces_in, words_in, Tiles, IsPiece}
+use Rattle.model_build.specs.Cuts.{IsCut}
 use Rattle.model_build.specs.Touching.{is_in}
 
 -- ---- no piece is a shadow
@@ -94,10 +94,10 @@ pub record Stands (places : List ℕ) (w b : ℕ) : Type 0 where
 
 covering : (line : Line) (n to : ℕ) (words : List Word) → Tiles line n to words → (b : ℕ) → n ≤ b → b < to → (w : ℕ) × Stands (starts n words) w b
 covering line n to [] tiles b low high = absurd (let e : n ≡ to = tiles in omega arith)
-covering line n to (word ∷ more) tiles b low high = by_test (cases_Bool (nat_lt b (n + word.len)))
+covering line n to (word ∷ more) tiles b low high = by_test (λ above. covering line (n + word.len) to more tiles.2 b above high) (cases_Bool (nat_lt b (n + word.len)))
   where
-    by_test : (nat_lt b (n + word.len) ≡ true) ⊎ (nat_lt b (n + word.len) ≡ false) → (w : ℕ) × Stands (starts n (word ∷ more)) w b
-    by_test (inl e) =
+    by_test : (n + word.len ≤ b → (w : ℕ) × Stands (starts (n + word.len) more) w b) → (nat_lt b (n + word.len) ≡ true) ⊎ (nat_lt b (n + word.len) ≡ false) → (w : ℕ) × Stands (starts n (word ∷ more)) w b
+    by_test others (inl e) =
         let less = ltb-true b (n + word.len) e in
         let first = starts_first (n + word.len) more in
         (0, record { there = some more (n + word.len); low = low; high = omega arith })
@@ -105,8 +105,8 @@ covering line n to (word ∷ more) tiles b low high = by_test (cases_Bool (nat_l
         some : (words : List Word) (m : ℕ) → 1 < suc (length (starts m words))
         some [] m = omega arith
         some (x ∷ xs) m = omega arith
-    by_test (inr e) =
-        let rest = covering line (n + word.len) to more tiles.2 b (ltb-false b (n + word.len) e) high in
+    by_test others (inr e) =
+        let rest = others (ltb-false b (n + word.len) e) in
         (suc rest.0, record { there = let t = rest.1.there in omega arith; low = rest.1.low; high = rest.1.high })
 
 rising : (line : Line) (n to : ℕ) (words : List Word) → Tiles line n to words → (w : ℕ) → suc w < length (starts n words) → slice_index (starts n words) w < slice_index (starts n words) (suc w)

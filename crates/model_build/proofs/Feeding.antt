@@ -1,25 +1,26 @@
--- That the edges between processes by their words are those by their bits.
+-- That the edges between processes by their words are those by their bits, and that each word has one writer at most.
 use Rattle.std.proofs.Common.{◌≡◌, ℕ, zero, suc, ◌+◌, ◌<◌, ◌≤◌, ◌==◌, Bool, true, false, cond, ◌&&◌, ◌||◌, not, List, [], ◌∷◌, ◌++◌, length, Option, Some, None, max, min, refl, sym, ap, ◌∙◌, subst, arith, inl, inr, ◌⊎◌}
-use Rattle.std.specs.Prelude.{nat_lt, nat_le, slice_get, slice_index, if◌then◌else◌}
-use Rattle.std.specs.List.{list_any}
+use Rattle.std.specs.Prelude.{nat_lt, nat_le, slice_get, ⊤}
+use Rattle.std.specs.List.{list_any, All}
 use Rattle.std.proofs.lemmas.Bool.{and_parts, and_from, cases_Bool, cases_eq, ltb-true, ltb-false, leb-true, le-leb, lt-ltb, or_cases, or_left, or_right}
-use Rattle.plan_graph.specs.declared.node.Edge.{Edge}
+use Rattle.std.proofs.lemmas.List.Kept.{AllPairs-cons}
 use Rattle.rtl_ir.specs.declared.design.Proc.{Proc}
 use Rattle.rtl_ir.specs.declared.whole.Design.{Design}
-use Rattle.rtl_pieces.specs.declared.range.BitRange.{BitRange}
 use Rattle.rtl_pieces.specs.declared.layout.Word.{Word}
 use Rattle.rtl_pieces.specs.Line.{Line, has}
-use Rattle.rtl_pieces.specs.Bits.{line_in, writes, reads, names, named_left}
+use Rattle.rtl_pieces.specs.Bits.{line_in, writes, reads, named_left}
 use Rattle.rtl_pieces.specs.Cover.{places_of}
-use Rattle.rtl_pieces.specs.Words.{writer_of, first_writer, words_in}
+use Rattle.rtl_pieces.specs.Words.{writer_of, first_writer}
 use Rattle.logic_graph.specs.declared.ranges.WordRange.{WordRange}
 use Rattle.logic_graph.specs.declared.ranges.Touched.{Touched}
-use Rattle.logic_graph.specs.Reading.{has_word, meets, meet_somewhere, edge_to, edges_out_of, edges_of}
+use Rattle.order_levels.specs.Serial.{numbers_from}
+use Rattle.logic_graph.specs.Reading.{has_word, meets, meet_somewhere, edge_to, edges_out_of, edges_of, OneWriter}
 use Rattle.logic_graph.specs.Reading as words
 use Rattle.model_build.specs.Drivers.{OneDriver}
 use Rattle.model_build.specs.Cuts.{IsCut}
-use Rattle.model_build.specs.Touching.{Each, IsTouched, WordsAre, is_in}
-use Rattle.model_build.specs.Settle.{some_below, feeds, edges_out, edges_from, read_edges, combs_of}
+use Rattle.task_code.specs.Compiled.{Each}
+use Rattle.model_build.specs.Touching.{IsTouched, WordsAre}
+use Rattle.model_build.specs.Settle.{some_below, feeds, edges_out, edges_from, read_edges, clocked_of, combs_of}
 use Rattle.model_build.proofs.Covering.{Stands, places_with, places_in, covered, same_writer, has_bits, bit_in, word_in}
 
 -- ---- ranges meet where they have a word in common
@@ -77,24 +78,24 @@ meet_from w (r ∷ some) others one two = by_cases (λ rest. meet_from w some ot
 
 writer_writes : (test : ℕ → ℕ → Bool) (number more b p : ℕ) → first_writer test number more b ≡ Some p → test p b ≡ true
 writer_writes test number zero b p is = absurd (let e : None ≡ Some p = is in cc)
-writer_writes test number (suc more) b p is = by_test (cases_Bool (test number b))
+writer_writes test number (suc more) b p is = by_test (λ rest. writer_writes test (suc number) more b p rest) (cases_Bool (test number b))
   where
-    by_test : (test number b ≡ true) ⊎ (test number b ≡ false) → test p b ≡ true
-    by_test (inl e) =
+    by_test : (first_writer test (suc number) more b ≡ Some p → test p b ≡ true) → (test number b ≡ true) ⊎ (test number b ≡ false) → test p b ≡ true
+    by_test others (inl e) =
         let here : Some number ≡ Some p = sym (ap (λ (t : Bool). cond t (Some number) (first_writer test (suc number) more b)) e) ∙ is in
         let same : number ≡ p = cc in
         ap (λ (n : ℕ). test n b) (sym same) ∙ e
-    by_test (inr e) = writer_writes test (suc number) more b p (sym (ap (λ (t : Bool). cond t (Some number) (first_writer test (suc number) more b)) e) ∙ is)
+    by_test others (inr e) = others (sym (ap (λ (t : Bool). cond t (Some number) (first_writer test (suc number) more b)) e) ∙ is)
 
 writer_some : (test : ℕ → ℕ → Bool) (number more b p : ℕ) → number ≤ p → p < number + more → test p b ≡ true → (q : ℕ) × (first_writer test number more b ≡ Some q)
 writer_some test number zero b p low high is = absurd (omega arith)
-writer_some test number (suc more) b p low high is = by_test (cases_Bool (test number b)) (cases_eq number p)
+writer_some test number (suc more) b p low high is = by_test (λ above. writer_some test (suc number) more b p above (omega arith) is) (cases_Bool (test number b)) (cases_eq number p)
   where
-    by_test : (test number b ≡ true) ⊎ (test number b ≡ false) → (number ≡ p) ⊎ (number ≡ p → ⊥) → (q : ℕ) × (first_writer test number (suc more) b ≡ Some q)
-    by_test (inl e) other = (number, ap (λ (t : Bool). cond t (Some number) (first_writer test (suc number) more b)) e)
-    by_test (inr e) (inl same) = absurd (let one : test number b ≡ true = ap (λ (n : ℕ). test n b) same ∙ is in let two : true ≡ false = sym one ∙ e in cc)
-    by_test (inr e) (inr other) =
-        let rest = writer_some test (suc number) more b p (omega arith) (omega arith) is in
+    by_test : (suc number ≤ p → (q : ℕ) × (first_writer test (suc number) more b ≡ Some q)) → (test number b ≡ true) ⊎ (test number b ≡ false) → (number ≡ p) ⊎ (number ≡ p → ⊥) → (q : ℕ) × (first_writer test number (suc more) b ≡ Some q)
+    by_test others (inl e) other = (number, ap (λ (t : Bool). cond t (Some number) (first_writer test (suc number) more b)) e)
+    by_test others (inr e) (inl same) = absurd (let one : test number b ≡ true = ap (λ (n : ℕ). test n b) same ∙ is in let two : true ≡ false = sym one ∙ e in cc)
+    by_test others (inr e) (inr other) =
+        let rest = others (omega arith) in
         (rest.0, ap (λ (t : Bool). cond t (Some number) (first_writer test (suc number) more b)) e ∙ rest.1)
 
 get_past : (procs : List Proc) (p : ℕ) → length procs ≤ p → slice_get procs p ≡ None
@@ -113,21 +114,42 @@ is_process line procs p b is = by_test (cases_Bool (nat_lt p (length procs)))
         let parts = and_parts (nat_lt b line.bits) (has b (named_left line (slice_get procs p))) is in
         absurd (let no : false ≡ true = sym (ap (λ (o : Option Proc). has b (named_left line o)) none) ∙ parts.1 in cc)
 
+some_same : {a b : ℕ} → Some a ≡ Some b → a ≡ b
+some_same e = cc
+
+-- ---- the numbers of processes rise
+
+abbrev Rises : ℕ → List ℕ → Type 0
+Rises low [] = ⊤
+Rises low (n ∷ more) = (low ≤ n) × Rises (suc n) more
+
+rises_lower : (low : ℕ) (list : List ℕ) → Rises (suc low) list → Rises low list
+rises_lower low [] rises = tt
+rises_lower low (n ∷ more) rises = (let from = rises.0 in omega arith, rises.1)
+
+numbers_rise : (passes : Bool → Bool) (at : ℕ) (marks : List Bool) → Rises at (numbers_from at passes marks)
+numbers_rise passes at [] = tt
+numbers_rise passes at (m ∷ more) = either (numbers_rise passes (suc at) more) (passes m)
+  where
+    either : Rises (suc at) (numbers_from (suc at) passes more) → (t : Bool) → Rises at (cond t (at ∷ numbers_from (suc at) passes more) (numbers_from (suc at) passes more))
+    either rest true = (omega arith, rest)
+    either rest false = rises_lower at (numbers_from (suc at) passes more) rest
+
 module _ (design : Design) (one : OneDriver design) where
   is_writer : (p b : ℕ) → writes (line_in design) design.procs p b ≡ true → writer_of (line_in design) design.procs b ≡ Some p
   is_writer p b is =
-      let some = writer_some (writes (line_in design) design.procs) 0 (length design.procs) b p (omega arith) (is_process (line_in design) design.procs p b is) is in
+      let some = writer_some (writes (line_in design) design.procs) 0 (length design.procs) b p (omega arith) (let less = is_process (line_in design) design.procs p b is in omega arith) is in
       some.1 ∙ ap Some (one.single b some.0 p (writer_writes (writes (line_in design) design.procs) 0 (length design.procs) b some.0 some.1) is)
 
 -- ---- some number below a bound
 
 below_from : (passes : ℕ → Bool) (n b : ℕ) → b < n → passes b ≡ true → some_below passes n ≡ true
 below_from passes zero b less is = absurd (omega arith)
-below_from passes (suc n) b less is = by_eq (cases_eq b n)
+below_from passes (suc n) b less is = by_eq (λ below. below_from passes n b below is) (cases_eq b n)
   where
-    by_eq : (b ≡ n) ⊎ (b ≡ n → ⊥) → (passes n || some_below passes n) ≡ true
-    by_eq (inl same) = or_left (passes n) (some_below passes n) (ap passes (sym same) ∙ is)
-    by_eq (inr other) = or_right (passes n) (some_below passes n) (below_from passes n b (let apart : b ≡ n → ⊥ = other in omega arith) is)
+    by_eq : (b < n → some_below passes n ≡ true) → (b ≡ n) ⊎ (b ≡ n → ⊥) → (passes n || some_below passes n) ≡ true
+    by_eq others (inl same) = or_left (passes n) (some_below passes n) (ap passes (sym same) ∙ is)
+    by_eq others (inr other) = or_right (passes n) (some_below passes n) (others (let apart : b ≡ n → ⊥ = other in omega arith))
 
 below_some : (passes : ℕ → Bool) (n : ℕ) → some_below passes n ≡ true → (b : ℕ) × (b < n) × (passes b ≡ true)
 below_some passes zero is = absurd (let e : false ≡ true = is in cc)
@@ -204,8 +226,44 @@ module _ (design : Design) (cut_words : List Word) (cut : IsCut design cut_words
       let rest = from_same (suc at) ps ts each.1 qs us others in
       λ j. here j ++ rest j
 
-each_at : {R : List ℕ → ℕ → Touched → Type 0} (x y : List ℕ) → x ≡ y → (ps : List ℕ) (ts : List Touched) → Each (R x) ps ts → Each (R y) ps ts
-each_at {R} x y e ps ts each = subst (λ (z : List ℕ). Each (R z) ps ts) e each
+  -- ---- no two processes write a common word
+
+  apart : (p q : ℕ) (t u : Touched) → Of p t → Of q u → p < q → meet_somewhere t.writes u.writes ≡ false
+  apart p q t u of_p of_q less = by_test (cases_Bool (meet_somewhere t.writes u.writes))
+    where
+      by_test : (meet_somewhere t.writes u.writes ≡ true) ⊎ (meet_somewhere t.writes u.writes ≡ false) → meet_somewhere t.writes u.writes ≡ false
+      by_test (inr e) = e
+      by_test (inl met) =
+          let w = common_word t.writes u.writes met in
+          let b = bit_of (writes (line_in design) design.procs p) t.writes of_p.written w.0 w.1 in
+          let c = bit_of (writes (line_in design) design.procs q) u.writes of_q.written w.0 w.2 in
+          let of_c : writer_of (line_in design) design.procs c.0 ≡ Some p = same_writer design cut_words cut w.0 c.0 b.0 c.1 b.1 ∙ is_writer design one p b.0 b.2 in
+          let is_c : writer_of (line_in design) design.procs c.0 ≡ Some q = is_writer design one q c.0 c.2 in
+          let same : p ≡ q = some_same (sym of_c ∙ is_c) in
+          absurd (omega arith)
+
+  all_apart : (p : ℕ) (t : Touched) → Of p t → (low : ℕ) → p < low → (qs : List ℕ) (us : List Touched) → Rises low qs → Each Of qs us → All (λ u. meet_somewhere t.writes u.writes ≡ false) us
+  all_apart p t of_p low less [] [] rises each k d within = absurd (omega arith)
+  all_apart p t of_p low less [] (u ∷ us) rises each k d within = absurd each
+  all_apart p t of_p low less (q ∷ qs) [] rises each k d within = absurd each
+  all_apart p t of_p low less (q ∷ qs) (u ∷ us) rises each zero d within =
+      let from = rises.0 in
+      apart p q t u of_p each.0 (omega arith)
+  all_apart p t of_p low less (q ∷ qs) (u ∷ us) rises each (suc k) d within =
+      let from = rises.0 in
+      all_apart p t of_p (suc q) (omega arith) qs us rises.1 each.1 k d (omega arith)
+
+  one_each : (low : ℕ) (ps : List ℕ) (ts : List Touched) → Rises low ps → Each Of ps ts → OneWriter ts
+  one_each low [] [] rises each i j d less within = absurd (omega arith)
+  one_each low [] (t ∷ ts) rises each i j d less within = absurd each
+  one_each low (p ∷ ps) [] rises each i j d less within = absurd each
+  one_each low (p ∷ ps) (t ∷ ts) rises each i j d less within =
+      AllPairs-cons (λ a b. meet_somewhere a.writes b.writes ≡ false) t ts
+      (all_apart p t each.0 (suc p) (omega arith) ps ts rises.1 each.1)
+      (one_each (suc p) ps ts rises.1 each.1) i j d less within
+
+each_at : (R : List ℕ → ℕ → Touched → Type 0) (x y : List ℕ) → x ≡ y → (ps : List ℕ) (ts : List Touched) → Each (R x) ps ts → Each (R y) ps ts
+each_at R x y e ps ts each = subst (λ (z : List ℕ). Each (R z) ps ts) e each
 
 -- the edges by words are those by bits
 pub edges_same : (design : Design) (cut_words : List Word) (combs : List ℕ) (ts : List Touched) → IsCut design cut_words → OneDriver design → combs ≡ combs_of design.procs
@@ -213,9 +271,17 @@ pub edges_same : (design : Design) (cut_words : List Word) (combs : List ℕ) (t
 unfolding read_edges
 edges_same design cut_words combs ts cut one are each =
     let is : places_of 0 cut_words ≡ places_with (line_in design) design.procs = ap (places_of 0) cut.words_are ∙ places_in (line_in design) design.procs in
-    let all = each_at {R = λ places. IsTouched (line_in design) design.procs places} (places_of 0 cut_words) (places_with (line_in design) design.procs) is combs ts each in
+    let all = each_at (λ places. IsTouched (line_in design) design.procs places) (places_of 0 cut_words) (places_with (line_in design) design.procs) is combs ts each in
     from_same design cut_words cut one 0 combs ts all combs ts all
     ∙ ap (λ (ps : List ℕ). edges_from (feeds (line_in design) design.procs) 0 ps ps) are
+
+-- each word that combinational processes touch has one writer at most
+pub one_writer : (design : Design) (cut_words : List Word) (combs : List ℕ) (ts : List Touched) → IsCut design cut_words → OneDriver design → combs ≡ combs_of design.procs
+    → Each (IsTouched (line_in design) design.procs (places_of 0 cut_words)) combs ts → OneWriter ts
+one_writer design cut_words combs ts cut one are each =
+    let is : places_of 0 cut_words ≡ places_with (line_in design) design.procs = ap (places_of 0) cut.words_are ∙ places_in (line_in design) design.procs in
+    let all = each_at (λ places. IsTouched (line_in design) design.procs places) (places_of 0 cut_words) (places_with (line_in design) design.procs) is combs ts each in
+    one_each design cut_words cut one 0 combs ts (subst (Rises 0) (sym are) (numbers_rise not 0 (clocked_of design.procs))) all
 
 pub each_length : {A B : Type 0} (R : A → B → Type 0) (xs : List A) (ys : List B) → Each R xs ys → length ys ≡ length xs
 each_length R [] [] each = refl

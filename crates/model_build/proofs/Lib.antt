@@ -4,3 +4,4 @@ pub mod Feeding
 pub mod Coding
 pub mod Uses
 pub mod Touch
+pub mod Planned

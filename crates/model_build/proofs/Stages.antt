@@ -1,20 +1,17 @@
 -- That a refusal of one stage is that of the whole.
-use Rattle.std.proofs.Common.{◌≡◌, ◌<◌, ◌≤◌, ℕ, List, Bool, true, false, ◌||◌, inl, inr, ◌⊎◌, nat_lt, arith, length}
-use Rattle.std.proofs.lemmas.Bool.{or_cases, or_parts, ltb-true, ltb-false}
-use Rattle.vs_base.specs.declared.limits.Kind.{Kind}
+use Rattle.std.proofs.Common.{◌≡◌, ◌≤◌, List, true, false, ◌||◌, inl, inr, ◌⊎◌, nat_lt, length}
+use Rattle.std.proofs.lemmas.Bool.{or_cases, ltb-true, ltb-false}
 use Rattle.vs_base.specs.declared.limits.Kind.TheVariants as kind
 use Rattle.rtl_ir.specs.declared.whole.Design.{Design}
 use Rattle.plan_graph.specs.declared.node.Part.TheVariants as part
-use Rattle.order_levels.specs.Settling.{Settling}
 use Rattle.model_build.specs.declared.import.ImportUse.{ImportUse}
 use Rattle.model_build.specs.declared.fault.BuildFault.{BuildFault}
 use Rattle.model_build.specs.declared.fault.BuildFault.TheVariants as fault
 use Rattle.model_build.specs.Drivers.{OneDriver, DriverRefusal}
-use Rattle.model_build.specs.Imports.{AllAnswer, ImportFault}
+use Rattle.model_build.specs.Imports.{ImportFault}
 use Rattle.model_build.specs.Settle.{FewNodes, ManyNodes, OrderFault, GraphRefusal, LoopRefusal, combs_of, read_edges, settling_of, nodes_of}
 use Rattle.model_build.specs.Answer.{IsAccepted, FewWords, IsFault, LayFault, WordsFault}
-use Rattle.vs_base.specs.declared.limits.TheConstants.{WORDS, NODES, EDGES}
-use Rattle.model_build.specs.Cuts.{words_of}
+use Rattle.vs_base.specs.declared.limits.TheConstants.{NODES, EDGES}
 
 pub drivers_refused : (design : Design) (uses : List ImportUse) (f : BuildFault) → DriverRefusal design f → IsFault design uses f
 drivers_refused design uses (fault.NoMemory error) is = is

@@ -1,5 +1,5 @@
 -- What the build of a model is answered, in the one order of refusals.
-use Rattle.std.specs.Prelude.{◌≡◌, ◌<◌, ◌≤◌, ℕ, List, length, map, ⊤}
+use Rattle.std.specs.Prelude.{◌<◌, ◌≤◌, List, length, ⊤}
 use Rattle.vs_base.specs.declared.limits.TheConstants.{WORDS, EDGES}
 use Rattle.vs_base.specs.declared.limits.Kind.{Kind}
 use Rattle.vs_base.specs.declared.limits.Kind.TheVariants as kind

@@ -1,5 +1,5 @@
 -- The order of settling of a design, by the bits that its processes read and write.
-use Rattle.std.specs.Prelude.{◌≡◌, ◌<◌, ◌≤◌, nat_lt, ℕ, zero, suc, ◌-◌, ◌^◌, ◌==◌, min, max, Bool, true, false, ◌&&◌, ◌||◌, not, if◌then◌else◌, List, [], ◌∷◌, ◌++◌, map, length, slice_get, slice_index, Option, Some, None, ⊤, ◌⊎◌}
+use Rattle.std.specs.Prelude.{◌≡◌, ◌<◌, ◌≤◌, nat_lt, ℕ, zero, suc, ◌-◌, ◌^◌, ◌==◌, min, max, Bool, true, false, ◌&&◌, ◌||◌, not, if◌then◌else◌, List, [], ◌∷◌, ◌++◌, map, length, slice_get, Option, Some, None, ⊤, ◌⊎◌}
 use Rattle.std.specs.List.{list_all}
 use Rattle.vs_base.specs.declared.limits.TheConstants.{NODES, EDGES}
 use Rattle.vs_base.specs.declared.limits.Kind.{Kind}
@@ -13,7 +13,7 @@ use Rattle.rtl_pieces.specs.Words.{is_clocked_kind}
 use Rattle.plan_graph.specs.declared.node.Edge.{Edge}
 use Rattle.plan_graph.specs.declared.node.Part.{Part}
 use Rattle.plan_graph.specs.declared.node.Part.TheVariants as part
-use Rattle.order_levels.specs.Serial.{comb_procs, clocked_procs, serial_nodes, node_count}
+use Rattle.order_levels.specs.Serial.{comb_procs, clocked_procs, node_count}
 use Rattle.order_levels.specs.Settling.{Settling, InOrder, Stalls, settling}
 use Rattle.logic_graph.specs.Reading.{edge_to}
 use Rattle.proc_cost.specs.Costs.{proc_cost}

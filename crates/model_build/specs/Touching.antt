@@ -1,5 +1,5 @@
 -- The words that processes touch: a word is read where a bit of it is, and written where a bit of it is.
-use Rattle.std.specs.Prelude.{◌≡◌, ℕ, suc, ◌+◌, ◌<◌, ◌≤◌, Bool, true, false, ◌&&◌, nat_lt, List, [], ◌∷◌, length, slice_index}
+use Rattle.std.specs.Prelude.{◌≡◌, ℕ, suc, Bool, ◌&&◌, nat_lt, List, length, slice_index}
 use Rattle.std.specs.List.{list_any}
 use Rattle.rtl_ir.specs.declared.design.Proc.{Proc}
 use Rattle.rtl_pieces.specs.declared.range.BitRange.{BitRange}
@@ -8,13 +8,6 @@ use Rattle.rtl_pieces.specs.Bits.{reads, writes}
 use Rattle.logic_graph.specs.declared.ranges.WordRange.{WordRange}
 use Rattle.logic_graph.specs.declared.ranges.Touched.{Touched}
 use Rattle.logic_graph.specs.Reading.{has_word}
-
--- each of some things has what belongs to it, in order
-abbrev pub Each : {A B : Type 0} → (A → B → Type 0) → List A → List B → Type 0
-Each R [] [] = Unit {0}
-Each R [] (y ∷ ys) = ⊥
-Each R (x ∷ xs) [] = ⊥
-Each R (x ∷ xs) (y ∷ ys) = R x y × Each R xs ys
 
 -- word w, which stands from its place up to the next one, has a bit of a range
 abbrev pub is_in : List ℕ → ℕ → BitRange → Bool

@@ -1,3 +1,6 @@
+ghost use Rattle.std.specs.Prelude.{◌≡◌, alloc_error};
+ghost use Rattle.model_build.specs.declared.fault.BuildFault.TheVariants as variant;
+
 use sqlite_items::Items;
 use std::alloc::AllocError;
 use thiserror::Error;
@@ -9,7 +12,7 @@ use vs_base::{Origin, Text};
 pub enum BuildFault {
     /// There was no memory left.
     #[error("out of memory")]
-    NoMemory(#[from(alloc)] AllocError),
+    NoMemory(AllocError),
     /// The name of the least bit that two processes write, and the places of the first two of them.
     #[error("two drivers")]
     MultipleDrivers(Text, Origin, Origin),
@@ -26,4 +29,12 @@ pub enum BuildFault {
     /// first.
     #[error("processes wait for each other")]
     Loop(Items<Origin>),
+}
+
+impl From<AllocError> for BuildFault {
+    ghost from_gives = { λ _ fault. fault ≡ variant.NoMemory alloc_error };
+
+    fn from(error: AllocError) -> BuildFault {
+        BuildFault::NoMemory(error)
+    }
 }

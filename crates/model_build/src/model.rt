@@ -12,7 +12,7 @@ ghost use Rattle.model_build.specs.Answer.{IsAccepted, IsFault, LayFault, WordsF
 ghost use Rattle.model_build.specs.Imports as imports;
 ghost use Rattle.model_build.specs.Drivers.{OneDriver};
 ghost use Rattle.model_build.specs.Cuts.{IsCut, words_of};
-ghost use Rattle.model_build.specs.Settle.{Settles, clocked_of as clocked_in};
+ghost use Rattle.model_build.specs.Settle.{OrderFault, Settles, clocked_of as clocked_in};
 ghost use Rattle.model_build.specs.Costs.{node_cost};
 ghost use Rattle.model_build.specs.Plans.{IsPlan};
 
@@ -131,15 +131,34 @@ fn lay_out(alloc: Global, design: &Design) -> Result<Laid, BuildFault>
     ensures refused { IfErr result (LayFault design.now) }
 {
     let layout = words_of(alloc, design)?;
-    let clocked = clocked_of(alloc, design.procs.as_slice())?;
-    let order = settle_order(alloc, design, &layout, clocked.as_slice())?;
+    let ordered = in_order(alloc, design, &layout)?;
     let codes = codes_of(alloc, design, &layout)?;
     Ok(Laid {
         layout,
-        clocked,
-        order,
+        clocked: ordered.clocked,
+        order: ordered.order,
         codes,
     })
+}
+
+// Of each process whether it is clocked, and the order in which those that are not settle.
+#[derive(Drop)]
+struct Ordered {
+    clocked: Vec<bool>,
+    order: Vec<u32>,
+}
+
+fn in_order(alloc: Global, design: &Design, layout: &Layout) -> Result<Ordered, BuildFault>
+    requires procs { length design.now.procs < 2 ^ 32 }
+    requires one_driver { OneDriver design.now }
+    requires words { IsCut design.now layout.now.words.items }
+    ensures clocked { IfOk result (λ it. it.clocked.items ≡ clocked_in design.now.procs) }
+    ensures order { IfOk result (λ it. Settles design.now it.order.items) }
+    ensures refused { IfErr result (OrderFault design.now) }
+{
+    let clocked = clocked_of(alloc, design.procs.as_slice())?;
+    let order = settle_order(alloc, design, layout, clocked.as_slice())?;
+    Ok(Ordered { clocked, order })
 }
 
 fn words_of(alloc: Global, design: &Design) -> Result<Layout, BuildFault>

@@ -7,16 +7,17 @@ ghost use Rattle.rtl_pieces.specs.Cover.{places_of};
 ghost use Rattle.order_levels.specs.Serial.{comb_procs};
 ghost use Rattle.order_levels.specs.Sets.{all_below};
 ghost use Rattle.order_levels.specs.Settling.{settling, InOrder};
-ghost use Rattle.logic_graph.specs.Reading.{edges_of};
+ghost use Rattle.logic_graph.specs.Reading.{edges_of, OneWriter};
 ghost use Rattle.model_build.specs.Settle as spec;
 ghost use Rattle.model_build.specs.Drivers.{OneDriver};
 ghost use Rattle.model_build.specs.Cuts.{IsCut};
-ghost use Rattle.model_build.specs.Touching.{Each, IsTouched};
+ghost use Rattle.task_code.specs.Compiled.{Each};
+ghost use Rattle.model_build.specs.Touching.{IsTouched};
 
 use crate::driver::origin_of;
 use crate::fault::BuildFault;
 use crate::touched::{Ground, all_touched};
-use logic_graph::{GraphFault, Touched, graph_of, has_one_writer};
+use logic_graph::{GraphFault, Touched, graph_of};
 use order_levels::{LoopFault, has_too_many_nodes, ready_order};
 use plan_graph::{Graph, Part};
 use proc_cost::proc_cost;
@@ -125,16 +126,13 @@ fn words_touched(
 }
 
 fn graph(alloc: Global, costs: Items<u32>, touched: &[Touched]) -> Result<Graph, BuildFault>
-    requires { length costs ≡ length touched.now }
+    requires costs { length costs ≡ length touched.now }
+    requires one_writer { OneWriter touched.now }
     ensures costs { IfOk result (λ graph. graph.costs ≡ costs) }
     ensures edges { IfOk result (λ graph. graph.edges ≡ edges_of touched.now) }
     ensures few { OnOk result (length (edges_of touched.now) ≤ EDGES) }
     ensures refused { IfErr result (spec.GraphRefusal (edges_of touched.now)) }
 {
-    // No bit has two writers, so no word has.
-    if !has_one_writer(alloc, touched)? {
-        return Err(BuildFault::NoMemory(AllocError));
-    }
     match graph_of(alloc, costs, touched) {
         Ok(graph) => Ok(graph),
         Err(GraphFault::NoMemory) => Err(BuildFault::NoMemory(AllocError)),

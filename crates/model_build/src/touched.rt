@@ -5,7 +5,8 @@ ghost use Rattle.std.specs.List.{list_any};
 ghost use Rattle.std.specs.List.Sorted.{IsNonDecreasing};
 ghost use Rattle.rtl_pieces.specs.Bits.{reads, writes};
 ghost use Rattle.logic_graph.specs.Reading.{has_word};
-ghost use Rattle.model_build.specs.Touching.{Each, IsTouched, WordsAre, is_in};
+ghost use Rattle.task_code.specs.Compiled.{Each};
+ghost use Rattle.model_build.specs.Touching.{IsTouched, WordsAre, is_in};
 
 use logic_graph::{Touched, WordRange};
 use rtl_ir::Design;

@@ -17,11 +17,11 @@ deeper_still (code ∷ more) most = (let h = deeper_still more (max most code.st
 stack_from : (codes : List Ops) (most n : ℕ) (code : Ops) → slice_get codes n ≡ Some code → code.stack ≤ fold deeper most codes
 stack_from [] most n code is = cc
 stack_from (x ∷ more) most zero code is = (
-  let same : x ≡ code = cc in
-  let here : x.stack ≡ code.stack = ap (λ (o : Ops). o.stack) same in
-  let h = deeper_still more (max most x.stack) in
-  omega arith
-)
+    let same : x ≡ code = cc in
+    let here : x.stack ≡ code.stack = ap (λ (o : Ops). o.stack) same in
+    let h = deeper_still more (max most x.stack) in
+    omega arith
+    )
 stack_from (x ∷ more) most (suc n) code is = stack_from more (max most x.stack) n code is
 
 -- no code's stack is deeper than the deepest

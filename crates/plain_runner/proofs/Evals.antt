@@ -59,7 +59,7 @@ module _ (answer : Answer) (after : After) (env : Env) where
   shows_nodes procs codes fired [] o s h = h
   shows_nodes procs codes fired (n ∷ more) o s h =
       shows_nodes procs codes fired more (run_node answer after procs codes fired o n) (go_node answer after env procs codes fired s n)
-          (shows_if (is_run fired n) (course_at codes (code_number procs n)) o s h)
+      (shows_if (is_run fired n) (course_at codes (code_number procs n)) o s h)
 
   shows_settled : (b : Built) (inputs : List Number) (last : List ℕ) (s : Seen) → Shows (settled answer after b inputs (machine_of env last s).outside) (settled_in answer after env b inputs s)
   shows_settled b inputs last s =
@@ -76,7 +76,7 @@ module _ (answer : Answer) (after : After) (env : Env) where
       let words : o.words ≡ s.words = ap (λ (x : Outside). x.words) h.same in
       let fired : List ℕ → List Bool = fired_of b.design.procs b.layout.words.items last in
       subst (λ ws. Shows (clocked_if answer after b (fired ws) o) (clocked_in answer after env b last s)) (sym words)
-          (shows_clocked_if b (fired s.words) (list_any (λ (f : Bool). f) (fired s.words)) o s h)
+      (shows_clocked_if b (fired s.words) (list_any (λ (f : Bool). f) (fired s.words)) o s h)
 
   shows_closed : (b : Built) (o : Outside) (s : Seen) → b.deemed ≡ env.deemed → Shows o s → closed answer after b o ≡ machine_of env s.words s
   shows_closed b o s deemed h =
@@ -88,7 +88,7 @@ module _ (answer : Answer) (after : After) (env : Env) where
       → evaluated answer after b inputs (machine_of env last s) ≡ (let e = clocked_in answer after env b last (settled_in answer after env b inputs s) in machine_of env e.words e)
   eval_is b inputs last s deemed =
       shows_closed b (clocked answer after b last (settled answer after b inputs (machine_of env last s).outside)) (clocked_in answer after env b last (settled_in answer after env b inputs s)) deemed
-          (shows_clocked b last (settled answer after b inputs (machine_of env last s).outside) (settled_in answer after env b inputs s) (shows_settled b inputs last s))
+      (shows_clocked b last (settled answer after b inputs (machine_of env last s).outside) (settled_in answer after env b inputs s) (shows_settled b inputs last s))
 
 -- an eval in its two halves
 module _ (answer : Answer) (after : After) (ids widths : List ℕ) (deemed : List Bool) where

@@ -12,10 +12,10 @@ pub narrow : (inputs : List Number) (of : List ℕ) (vars : List Var) → map (�
 narrow [] of vars same k = omega arith
 narrow (n ∷ inputs) [] vars same k = cc
 narrow (n ∷ inputs) (v ∷ of) vars same zero = (
-  let wide : n.width ≡ width_of vars v = cc in
-  subst (λ (w : ℕ). w ≤ 64) (sym wide) (narrow_if (slice_get vars v))
-)
+    let wide : n.width ≡ width_of vars v = cc in
+    subst (λ (w : ℕ). w ≤ 64) (sym wide) (narrow_if (slice_get vars v))
+    )
 narrow (n ∷ inputs) (v ∷ of) vars same (suc k) = (
-  let rest : map (λ (n : Number). n.width) inputs ≡ map (width_of vars) of = cc in
-  narrow inputs of vars rest k
-)
+    let rest : map (λ (n : Number). n.width) inputs ≡ map (width_of vars) of = cc in
+    narrow inputs of vars rest k
+    )

@@ -2,9 +2,9 @@
 ghost use Rattle.std.specs.Prelude.{◌≡◌, ◌<◌, ◌≤◌, length, slice_index, slice_index_or, false, IfOk, OnOk};
 ghost use Rattle.plain_runner.specs.Seen.{seen_of, env_of, reply_in, call_in};
 
+use crate::callee::Callee;
 use crate::live::Live;
 use crate::tables::Tables;
-use crate::callee::Callee;
 use dpi_host::CallRec;
 use plan_types::{Built, RunFault};
 use run_tables::cut;

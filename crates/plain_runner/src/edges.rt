@@ -41,13 +41,7 @@ fn fires(kind: &ProcKind, built: &Built, events: &[usize], last: &[u64], now: &[
     }
 }
 
-fn some_occurs(
-    list: &[Event],
-    built: &Built,
-    events: &[usize],
-    last: &[u64],
-    now: &[u64],
-) -> bool
+fn some_occurs(list: &[Event], built: &Built, events: &[usize], last: &[u64], now: &[u64]) -> bool
     requires each { (v : ℕ) → v < length built.now.design.vars → slice_index events.now v ≡ event_word built.now.layout.words.items v }
     requires fits { list_all (event_fits (length built.now.design.vars)) list.now ≡ true }
     ensures { result ≡ list_any (has_edge built.now.layout.words.items last.now now.now) list.now }

@@ -5,12 +5,12 @@ ghost use Rattle.plan_types.specs.Machine.{IsInput, evaluated};
 ghost use Rattle.plain_runner.specs.Seen.{seen_of, env_of, machine_of, settled_in, clocked_in};
 ghost use Rattle.plain_runner.specs.Tabled.{AreTables};
 
+use crate::callee::Callee;
 use crate::edges::fire;
 use crate::live::{Live, Past};
 use crate::nodes::run_nodes;
 use crate::put::put;
 use crate::tables::Tables;
-use crate::callee::Callee;
 use plan_types::{Built, RunFault};
 use task_eval::Frame;
 use vs_base::Bits;
@@ -68,7 +68,15 @@ fn settle<C: Callee>(
     live.calls.clear();
     put(inputs, tables.inputs.as_slice(), live.words.as_mut_slice());
     let nodes = built.settle.nodes.as_slice();
-    run_nodes(built, tables, nodes, tables.settle.as_slice(), &[], frame, live)
+    run_nodes(
+        built,
+        tables,
+        nodes,
+        tables.settle.as_slice(),
+        &[],
+        frame,
+        live,
+    )
 }
 
 // Runs what fired, where something did. Events are from the end of the eval before to now.
@@ -102,5 +110,13 @@ fn clock<C: Callee>(
     }
     let nodes = built.clocked.nodes.as_slice();
     let numbers = tables.clocked.as_slice();
-    run_nodes(built, tables, nodes, numbers, past.fired.as_slice(), frame, live)
+    run_nodes(
+        built,
+        tables,
+        nodes,
+        numbers,
+        past.fired.as_slice(),
+        frame,
+        live,
+    )
 }

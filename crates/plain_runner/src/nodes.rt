@@ -5,10 +5,10 @@ ghost use Rattle.plan_types.specs.Coded.{code_number};
 ghost use Rattle.plan_types.specs.Machine.{is_run as runs, course_at};
 ghost use Rattle.plain_runner.specs.Seen.{seen_of, env_of, go, go_nodes};
 
+use crate::callee::Callee;
 use crate::live::Live;
 use crate::tables::Tables;
 use crate::turn::run_code;
-use crate::callee::Callee;
 use plan_graph::Node;
 use plan_types::{Built, RunFault};
 use task_eval::Frame;

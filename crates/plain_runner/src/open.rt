@@ -8,8 +8,8 @@ use crate::live::Past;
 use crate::tables::Tables;
 use dpi_host::NoMemory;
 use plan_types::{Built, InputWord};
-use run_tables::{event_words, input_words, node_codes, opening_words, result_widths};
 use rtl_pieces::Word;
+use run_tables::{event_words, input_words, node_codes, opening_words, result_widths};
 use std::alloc::Global;
 use task_eval::Frame;
 

@@ -7,9 +7,9 @@ ghost use Rattle.plain_runner.specs.Seen.{seen_of, env_of, go};
 ghost use Rattle.plain_runner.specs.Turns.{Turned};
 
 use crate::call::call;
+use crate::callee::Callee;
 use crate::live::Live;
 use crate::tables::Tables;
-use crate::callee::Callee;
 use plan_types::{Built, RunFault};
 use task_eval::{Ask, Code, Frame};
 

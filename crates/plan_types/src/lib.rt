@@ -61,6 +61,8 @@ mod one_task;
 mod plan;
 mod run;
 mod runner;
+#[cfg(test)]
+mod tests;
 
 pub use built::Built;
 pub use cost::cost_of;

@@ -59,7 +59,7 @@ with_stim files (Some name) = files ++ name ∷ []
 -- ---- as the code has it
 
 abbrev pub command_by : CodeCommand → Command
-command_by c = record { files = c.files.items; top = c.top; mode = c.mode; texts = c.texts }
+command_by c = record { files = c.files.now; top = c.top; mode = c.mode; texts = c.texts }
 
 abbrev pub host_view : (List ℕ → Option ℕ) → (ℕ → Bool) → Answer → After → List (List ℕ) → List ℕ → HostView
 host_view id_of by_args answer after fixed state = record { id_of = id_of; by_args = by_args; answer = answer; after = after; fixed = fixed; state = state }

@@ -25,11 +25,12 @@ use Rattle.parse_expr.specs.Outside.{starts_outside, outside_at, IsFirstOutside}
 use Rattle.parse_expr.specs.declared.fault.ParseFault.TheVariants as parsing
 use Rattle.sv_parse.specs.Faults.{NoneOutside}
 use Rattle.run_status.specs.Answer.{Answer, Refused}
-use Rattle.vsim_lint.specs.Words.{Text, Request, requested}
-use Rattle.vsim_lint.specs.FaultText.{usage, lexing_text, preprocessing_text, bad_number, parsing_text, design_text}
-use Rattle.vsim_lint.specs.Inputs.{Bytes, all_read}
-use Rattle.vsim_lint.specs.Lexing.{most_tokens, first_fault, AreTokens}
-use Rattle.vsim_lint.specs.Check.{AreNumbers, Asked, tops, bad_import, is_of_design, DesignAnswer, NoSuchName, FaultyDesign, TokensAnswer, NoNumber, Outside, NoTree, ReadingAnswer, TooMany, Faulty, Active, BytesAnswer, Unlexed, Lexed, ReadAnswer, NamedAnswer, IsAnswer, IsToldAnswer, IsNamedAnswer}
+use Rattle.vsim_words.specs.Settings.{Settings, settings_of}
+use Rattle.fault_text.specs.FaultText.{usage, lexing_text, preprocessing_text, bad_number, parsing_text, design_text}
+use Rattle.vsim_cli.specs.Case.{Text, Bytes, Command, HostView, Case, case_of, command_of, stim_of}
+use Rattle.vsim_cli.specs.Inputs.{file_read, all_read}
+use Rattle.vsim_cli.specs.Lexing.{most_tokens, first_fault, AreTokens}
+use Rattle.vsim_cli.specs.Check.{AreNumbers, Asked, tops, bad_import, is_of_design, DesignAnswer, NoSuchName, FaultyDesign, TokensAnswer, NoNumber, Outside, NoTree, ReadingAnswer, TooMany, Faulty, Active, BytesAnswer, Unlexed, Lexed, StimRead, ContentsAnswer, ReadAnswer, SettingsAnswer, IsAnswer, IsToldAnswer, IsCommandAnswer, IsContentsAnswer}
 
 -- ---- some table has the spellings of all tokens: the list of them all, in order
 
@@ -120,80 +121,93 @@ some_fault (at ∷ []) bad = (design.SelfInstance nowhere, refl, inl (refl, tt))
     nowhere = record { file = 0; line = 0; col = 0 }
 some_fault (at ∷ other ∷ more) bad = (design.ManyTops, refl, inl (omega arith, tt))
 
-pub some_design_answer : (files : List Text) (top : Option Text) (table : List Text) (tree : SourceTree) → (a : Answer) × DesignAnswer files top table tree a
-some_design_answer files top table tree = by_top top refl
+pub some_design_answer : (k : Case) (table : List Text) (tree : SourceTree) → (a : Answer) × DesignAnswer k table tree a
+some_design_answer k table tree = by_top k.command.top refl
   where
-    faulty : (name : Option NameId) → Asked table top name → (a : Answer) × DesignAnswer files top table tree a
+    faulty : (name : Option NameId) → Asked table k.command.top name → (a : Answer) × DesignAnswer k table tree a
     faulty name asked =
         let some = some_fault (tops table tree name) (bad_import table tree) in
-        (Refused (design_text files table some.0), FaultyDesign name asked some.0 some.1 some.2 refl)
+        (Refused (design_text k.command.files table some.0), FaultyDesign name asked some.0 some.1 some.2 refl)
 
-    by_known : (text : Text) → top ≡ Some text → ((k : ℕ) × slice_get table k ≡ Some text) ⊎ IsAbsent table text → (a : Answer) × DesignAnswer files top table tree a
+    by_known : (text : Text) → k.command.top ≡ Some text → ((k : ℕ) × slice_get table k ≡ Some text) ⊎ IsAbsent table text → (a : Answer) × DesignAnswer k table tree a
     by_known text is (inl found) = faulty (Some (record { 0 = found.0 })) (subst (λ (o : Option Text). Asked table o (Some (record { 0 = found.0 }))) (sym is) found.1)
-    by_known text is (inr none) = (Refused (design_text files table design.NoTop), NoSuchName text is none refl)
+    by_known text is (inr none) = (Refused (design_text k.command.files table design.NoTop), NoSuchName text is none refl)
 
-    by_top : (o : Option Text) → top ≡ o → (a : Answer) × DesignAnswer files top table tree a
+    by_top : (o : Option Text) → k.command.top ≡ o → (a : Answer) × DesignAnswer k table tree a
     by_top None is = faulty None (subst (λ (o : Option Text). Asked table o None) (sym is) tt)
     by_top (Some text) is = by_known text is (known_or_absent table text)
 
-pub some_tokens_answer : (files : List Text) (top : Option Text) (table : List Text) (ts : List Token) → (a : Answer) × TokensAnswer files top table ts a
-some_tokens_answer files top table ts = by (position_from (is_no_number table) 0 ts) refl
+pub some_tokens_answer : (k : Case) (table : List Text) (ts : List Token) → (a : Answer) × TokensAnswer k table ts a
+some_tokens_answer k table ts = by (position_from (is_no_number table) 0 ts) refl
   where
-    by_outside : AreNumbers table ts → Decided table ts → (a : Answer) × TokensAnswer files top table ts a
-    by_outside numbers (inl found) = (Refused (parsing_text files table ts (parsing.Construct found.0)), Outside found.0 numbers found.1 refl)
-    by_outside numbers (inr none) = (Refused (parsing_text files table ts (parsing.Syntax 0)), NoTree 0 numbers none (omega arith) refl)
+    by_outside : AreNumbers table ts → Decided table ts → (a : Answer) × TokensAnswer k table ts a
+    by_outside numbers (inl found) = (Refused (parsing_text k.command.files table ts (parsing.Construct found.0)), Outside found.0 numbers found.1 refl)
+    by_outside numbers (inr none) = (Refused (parsing_text k.command.files table ts (parsing.Syntax 0)), NoTree 0 numbers none (omega arith) refl)
 
-    by : (o : Option ℕ) → position_from (is_no_number table) 0 ts ≡ o → (a : Answer) × TokensAnswer files top table ts a
-    by (Some k) is = (Refused (bad_number files ts k), NoNumber k is refl)
+    by : (o : Option ℕ) → position_from (is_no_number table) 0 ts ≡ o → (a : Answer) × TokensAnswer k table ts a
+    by (Some n) is = (Refused (bad_number k.command.files ts n), NoNumber n is refl)
     by None is = by_outside is (outside_or_none table ts)
 
-pub some_reading_answer : (files : List Text) (top : Option Text) (table : List Text) (r : Reading) → (a : Answer) × ReadingAnswer files top table r a
-some_reading_answer files top table r = by_count (nat_lt most_tokens r.count) refl
+pub some_reading_answer : (k : Case) (table : List Text) (r : Reading) → (a : Answer) × ReadingAnswer k table r a
+some_reading_answer k table r = by_count (nat_lt most_tokens r.count) refl
   where
-    by_fault : (f : Option PpFault) → r.fault ≡ f → r.count ≤ most_tokens → (a : Answer) × ReadingAnswer files top table r a
-    by_fault None is few = let some = some_tokens_answer files top table r.tokens in (some.0, Active is few some.1)
-    by_fault (Some f) is few = (Refused (preprocessing_text files table f), Faulty f is few refl)
+    by_fault : (f : Option PpFault) → r.fault ≡ f → r.count ≤ most_tokens → (a : Answer) × ReadingAnswer k table r a
+    by_fault None is few = let some = some_tokens_answer k table r.tokens in (some.0, Active is few some.1)
+    by_fault (Some f) is few = (Refused (preprocessing_text k.command.files table f), Faulty f is few refl)
 
-    by_count : (b : Bool) → nat_lt most_tokens r.count ≡ b → (a : Answer) × ReadingAnswer files top table r a
+    by_count : (b : Bool) → nat_lt most_tokens r.count ≡ b → (a : Answer) × ReadingAnswer k table r a
     by_count true is = (Refused (codes "too many tokens"), TooMany (ltb-true most_tokens r.count is) refl)
     by_count false is = by_fault r.fault refl (ltb-false most_tokens r.count is)
 
-pub some_bytes_answer : (files : List Text) (top : Option Text) (contents : List Bytes) → (a : Answer) × BytesAnswer files top contents a
-some_bytes_answer files top contents = by (first_fault 0 contents) refl
+pub some_bytes_answer : (k : Case) (contents : List Bytes) → (a : Answer) × BytesAnswer k contents a
+some_bytes_answer k contents = by (first_fault 0 contents) refl
   where
-    by : (f : Option LexFault) → first_fault 0 contents ≡ f → (a : Answer) × BytesAnswer files top contents a
-    by (Some f) is = (Refused (lexing_text files f), Unlexed f is refl)
+    by : (f : Option LexFault) → first_fault 0 contents ≡ f → (a : Answer) × BytesAnswer k contents a
+    by (Some f) is = (Refused (lexing_text k.command.files f), Unlexed f is refl)
     by None is =
         let table = all_spellings 0 contents in
         let tokens = all_numbered 0 0 contents in
-        let some = some_reading_answer files top table (reading table tokens) in
+        let some = some_reading_answer k table (reading table tokens) in
         (some.0, Lexed is table tokens (tokens_numbered [] 0 contents table refl) some.1)
 
-some_read_answer : (files : List Text) (top : Option Text) (read : Answer ⊎ List Bytes) → (a : Answer) × ReadAnswer files top read a
-some_read_answer files top (inl a) = (a, refl)
-some_read_answer files top (inr contents) = some_bytes_answer files top contents
+some_stim_read : (command : Command) (host : HostView) (contents : List Bytes) (read : Answer ⊎ Bytes) → (a : Answer) × StimRead command host contents read a
+some_stim_read command host contents (inl b) = (b, refl)
+some_stim_read command host contents (inr bytes) = some_bytes_answer (case_of command host (Some bytes)) contents
 
-pub some_named_answer : (files : List Text) (top : Option Text) (told : Option Files) → (a : Answer) × IsNamedAnswer files top told a
-some_named_answer files top None = (Refused usage, tt)
-some_named_answer files top (Some world) = some_read_answer files top (all_read world files)
+pub some_contents_answer : (command : Command) (host : HostView) (stim : Option Text) (world : Files) (contents : List Bytes) → (a : Answer) × ContentsAnswer command host stim world contents a
+some_contents_answer command host None world contents = some_bytes_answer (case_of command host None) contents
+some_contents_answer command host (Some name) world contents = some_stim_read command host contents (file_read name (world name))
 
-some_settings_answer : (named : Option Request) (world : Files) → (a : Answer) × NamedAnswer named world a
-some_settings_answer None world = (Refused usage, refl)
-some_settings_answer (Some r) world = some_read_answer r.files r.top (all_read world r.files)
+some_read_answer : (command : Command) (host : HostView) (stim : Option Text) (world : Files) (read : Answer ⊎ List Bytes) → (a : Answer) × ReadAnswer command host stim world read a
+some_read_answer command host stim world (inl b) = (b, refl)
+some_read_answer command host stim world (inr contents) = some_contents_answer command host stim world contents
 
-pub some_answer : (words : List Text) (world : Files) → (a : Answer) × IsAnswer words world a
-some_answer words world = some_settings_answer (requested words) world
+some_settings_answer : (settings : Option Settings) (host : HostView) (world : Files) → (a : Answer) × SettingsAnswer settings host world a
+some_settings_answer None host world = (Refused usage, refl)
+some_settings_answer (Some s) host world = some_read_answer (command_of s) host (stim_of s.action) world (all_read world s.files)
 
-pub some_told_answer : (words : List Text) (told : Option Files) → (a : Answer) × IsToldAnswer words told a
-some_told_answer words None = (Refused usage, tt)
-some_told_answer words (Some world) = some_answer words world
+-- some answer of each command line
+pub some_answer : (words : List Text) (host : HostView) (world : Files) → (a : Answer) × IsAnswer words host world a
+some_answer words host world = some_settings_answer (settings_of words) host world
 
--- ---- from the names to the words
+pub some_told_answer : (words : List Text) (host : HostView) (told : Option Files) → (a : Answer) × IsToldAnswer words host told a
+some_told_answer words host None = (Refused usage, tt)
+some_told_answer words host (Some world) = some_answer words host world
 
-pub named_told : (words : List Text) (r : Request) (told : Option Files) → Some r ≡ requested words → (a : Answer) → IsNamedAnswer r.files r.top told a → IsToldAnswer words told a
-named_told words r None e a is = tt
-named_told words r (Some world) e a is = subst (λ (n : Option Request). NamedAnswer n world a) e is
+pub some_command_answer : (command : Command) (host : HostView) (stim : Option Text) (told : Option Files) → (a : Answer) × IsCommandAnswer command host stim told a
+some_command_answer command host stim None = (Refused usage, tt)
+some_command_answer command host stim (Some world) = some_read_answer command host stim world (all_read world command.files)
 
-pub usage_told : (words : List Text) (told : Option Files) → None ≡ requested words → IsToldAnswer words told (Refused usage)
-usage_told words None e = tt
-usage_told words (Some world) e = subst (λ (n : Option Request). NamedAnswer n world (Refused usage)) e refl
+pub some_told_contents : (command : Command) (host : HostView) (stim : Option Text) (told : Option Files) (contents : List Bytes) → (a : Answer) × IsContentsAnswer command host stim told contents a
+some_told_contents command host stim None contents = (Refused usage, tt)
+some_told_contents command host stim (Some world) contents = some_contents_answer command host stim world contents
+
+-- ---- from the settings to the words
+
+pub settings_told : (words : List Text) (s : Settings) (host : HostView) (told : Option Files) → settings_of words ≡ Some s → (a : Answer) → IsCommandAnswer (command_of s) host (stim_of s.action) told a → IsToldAnswer words host told a
+settings_told words s host None e a is = tt
+settings_told words s host (Some world) e a is = subst (λ (n : Option Settings). SettingsAnswer n host world a) (sym e) is
+
+pub usage_told : (words : List Text) (host : HostView) (told : Option Files) → settings_of words ≡ None → IsToldAnswer words host told (Refused usage)
+usage_told words host None e = tt
+usage_told words host (Some world) e = subst (λ (n : Option Settings). SettingsAnswer n host world (Refused usage)) (sym e) refl

@@ -6,9 +6,9 @@ use Rattle.std.specs.declared.alloc.Global.{Global}
 use Rattle.vs_world.specs.Outside.{Files, IsMissing}
 use Rattle.run_status.specs.Answer.{Answer, Refused, Unread}
 use Rattle.run_input.specs.Input.{contents, IsInput}
-use Rattle.vsim_lint.specs.Words.{Text}
-use Rattle.vsim_lint.specs.FaultText.{too_long}
-use Rattle.vsim_lint.specs.Inputs.{Bytes, short_or, file_read, with_rest, all_read, before}
+use Rattle.vsim_cli.specs.Case.{Text, Bytes}
+use Rattle.fault_text.specs.FaultText.{too_long}
+use Rattle.vsim_cli.specs.Inputs.{short_or, file_read, with_rest, all_read, before}
 
 before_one : (done : List Bytes) (bytes : Bytes) (rest : Answer ⊎ List Bytes) → before done (with_rest (inr bytes) rest) ≡ before (done ++ bytes ∷ []) rest
 before_one done bytes (inl a) = refl
@@ -73,3 +73,31 @@ module _ (names : List Text) (at : ℕ) (done : List Bytes) (within : at < lengt
             → IfSome t (λ files. all_read files names ≡ inl (Unread name))
         by None is missing = tt
         by (Some files) is missing = missing_answers files done name (drop (at + 1) names) (all_read files names) (at_name files is) missing
+
+-- ---- one file, where the files are told
+
+module _ (name : Text) (told : Option Files) where
+  one_read : (files : Files) (f : Option Bytes) → files name ≡ f → (v : Option Bytes) (w : Option (Vec ℕ Global)) → contents w ≡ v → IsInput f w → file_read name (files name) ≡ short_or name v
+  one_read files None e v w same none = absurd none
+  one_read files (Some bytes) e v w same input = ap (file_read name) e ∙ ap (short_or name) (sym input ∙ same)
+
+  pub stim_there : (v : Vec ℕ Global) → IfSome told (λ files. IsInput (files name) (Some v)) → IfSome told (λ files. file_read name (files name) ≡ inr v.items)
+  stim_there v input = by told input
+    where
+      by : (t : Option Files) → IfSome t (λ files. IsInput (files name) (Some v)) → IfSome t (λ files. file_read name (files name) ≡ inr v.items)
+      by None input = tt
+      by (Some files) input = one_read files (files name) refl (Some v.items) (Some v) refl input
+
+  pub stim_long : IfSome told (λ files. IsInput (files name) None) → IfSome told (λ files. file_read name (files name) ≡ inl (Refused (too_long name)))
+  stim_long input = by told input
+    where
+      by : (t : Option Files) → IfSome t (λ files. IsInput (files name) None) → IfSome t (λ files. file_read name (files name) ≡ inl (Refused (too_long name)))
+      by None input = tt
+      by (Some files) input = one_read files (files name) refl None None refl input
+
+  pub stim_missing : IsMissing told name → IfSome told (λ files. file_read name (files name) ≡ inl (Unread name))
+  stim_missing missing = by told missing
+    where
+      by : (t : Option Files) → IsMissing t name → IfSome t (λ files. file_read name (files name) ≡ inl (Unread name))
+      by None missing = tt
+      by (Some files) missing = ap (file_read name) missing

@@ -1,9 +1,10 @@
 -- What is read of the files that the words name, one after another.
 use Rattle.std.specs.Prelude.{◌≡◌, ◌⊎◌, ◌≤◌, ◌<◌, ℕ, List, [], ◌∷◌, ◌++◌, length, get_or, Option, Some, None, IfSome}
 use Rattle.std.proofs.Common.{inl, inr}
-use Rattle.vs_world.specs.Outside.{Files, Rose}
-use Rattle.run_status.specs.Answer.{Answer, Refused, Unread}
-use Rattle.run_input.specs.Input.{short}
+use Rattle.vs_world.specs.Outside.{Files, Written, Rose}
+use Rattle.run_status.specs.declared.status.Status.{Status}
+use Rattle.run_status.specs.Answer.{Answer, Refused, Unread, Refuses}
+use Rattle.run_input.specs.Input.{short, Unreads}
 use Rattle.run_input.specs.declared.file.InputFault.TheVariants as fault
 use Rattle.vsim_cli.specs.declared.inputs.Stop.{Stop}
 use Rattle.vsim_cli.specs.declared.inputs.Stop.TheVariants as stop
@@ -51,3 +52,8 @@ pub record OnlyRead {F W M : Type 0} (faults faults' absent absent' : ℕ) (file
   pub files_same : files' ≡ files
   pub written_same : written' ≡ written
   pub made_same : made' ≡ made
+
+-- the status and the line where the files were not all read
+abbrev pub StopsWith : Status → Stop → List Text → Option Written → Option Written → ℕ → ℕ → Type 0
+StopsWith s (stop.TooLong k) names told told' faults faults' = Refuses s (too_long (get_or names k [])) told told' faults faults'
+StopsWith s (stop.Unread k f) names told told' faults faults' = Unreads s f (get_or names k []) told told' faults faults'

@@ -1,5 +1,5 @@
 -- What the model of a design is answered: that it is refused, or the texts of its run.
-use Rattle.std.specs.Prelude.{◌≡◌, ℕ, Bool, true, false, List, [], length, map, take, drop, Option, Some, None, Result, Ok, Err, is_some}
+use Rattle.std.specs.Prelude.{◌≡◌, ℕ, Bool, true, false, List, length, map, take, drop, Option, Some, None, Result, Ok, Err, is_some}
 use Rattle.std.specs.List.{All}
 use Rattle.vs_base.specs.declared.act.Act.{Act}
 use Rattle.sv_tree.specs.declared.tree.source.SourceTree.{SourceTree}
@@ -27,16 +27,17 @@ use Rattle.stimulus.specs.Stimulus.{stim_acts, design_ports}
 use Rattle.sim_session.specs.Files.{files_of}
 use Rattle.sim_session.specs.Inputs.{inputs_of}
 use Rattle.sim_session.specs.Pieces.{Piece}
-use Rattle.sim_session.specs.Streams.{Streamed, streamed}
+use Rattle.sim_session.specs.Streams.{streamed}
+use Rattle.sim_session.specs.declared.texts.Texts.{Texts}
 use Rattle.sim_session.specs.Runs.{Setting, setting, session_pieces}
 use Rattle.fault_text.specs.FaultText as text
-use Rattle.run_status.specs.Answer.{Answer, Refused, Texts, Output, nothing}
-use Rattle.vsim_cli.specs.Case.{Text, Bytes, Case}
+use Rattle.run_status.specs.Answer.{Answer, Refused, Texts as Written, Output, nothing}
+use Rattle.vsim_cli.specs.Case.{Text, Bytes, Command, HostView, Case}
 
 -- ---- what is told of the flat design of scopes
 
 pub record IsFlat (table : List Text) (tree : SourceTree) (scopes : List Scope) (d : Design) : Type 0 where
-  pub scopes : d.scopes ≡ map flat_scope_of scopes
+  pub scopes_are : d.scopes ≡ map flat_scope_of scopes
   pub imports : flat_imports.AreImports table tree d.imports
   pub ports : flat_ports.top_ports table tree.descriptions scopes ≡ Some d.ports
   pub vars : All (VarStands scopes) d.vars
@@ -47,48 +48,48 @@ pub record IsFlat (table : List Text) (tree : SourceTree) (scopes : List Scope) 
 -- ---- its model
 
 -- how the host serves the imports of a design
-abbrev pub uses_of : Case → Design → List ImportUse
-uses_of k d = imports.uses_of k.host.id_of k.host.by_args k.command.mode d
+abbrev pub uses_of : Command → HostView → Design → List ImportUse
+uses_of c h d = imports.uses_of h.id_of h.by_args c.mode d
 
 -- the words of a design, a code for each process and each commit, the plans of both parts of an eval in one settle order, and how imports are served
-pub record IsBuilt (k : Case) (d : Design) (b : Built) : Type 0 where
+pub record IsBuilt (c : Command) (h : HostView) (d : Design) (b : Built) : Type 0 where
   pub design : b.design ≡ d
   pub words : IsCut d b.layout.words.items
   pub bodies : Each (IsBody b.layout.words.items) d.procs (take (length d.procs) b.codes)
   pub commits : Each (λ (p : ℕ). IsCommit b.layout.words.items (λ word. writes (line_in d) d.procs p (place_of (line_in d) word.holds))) (clocked_from 0 d.procs) (drop (length d.procs) b.codes)
   pub settle : (order : List ℕ) × Settles d order × IsPlan d.procs b.codes order part.Settle b.settle × IsPlan d.procs b.codes order part.Clocked b.clocked
-  pub deemed : b.deemed ≡ imports.deemed_of k.command.mode d.imports
-  pub ids : b.ids ≡ imports.ids_of k.host.id_of k.host.by_args d.imports
+  pub deemed : b.deemed ≡ imports.deemed_of c.mode d.imports
+  pub ids : b.ids ≡ imports.ids_of h.id_of h.by_args d.imports
 
 -- ---- the texts of its run
 
-abbrev pub setting_of : Case → Built → Setting
-setting_of k b = setting k.host.answer k.host.after b (is_some k.command.texts.calls) (is_some k.command.texts.vcd)
+abbrev pub setting_of : Command → HostView → Built → Setting
+setting_of c h b = setting h.answer h.after b (is_some c.texts.calls) (is_some c.texts.vcd)
 
 -- what a run writes, piece by piece
-abbrev pub pieces_of : Case → Built → List Act → List Piece
-pieces_of k b acts = session_pieces (setting_of k b) (opening b k.host.fixed k.host.state) (inputs_of b.design acts)
+abbrev pub pieces_of : Command → HostView → Built → List Act → List Piece
+pieces_of c h b acts = session_pieces (setting_of c h b) (opening b h.fixed h.state) (inputs_of b.design acts)
 
-abbrev pub output_by : Case → Streamed → Output
-output_by k s = record { out = s.out; calls = s.calls; vcd = s.vcd; files = files_of k.command.texts }
+abbrev pub output_by : Texts → List Piece → Output
+output_by texts pieces = record { out = (streamed pieces).out; calls = (streamed pieces).calls; vcd = (streamed pieces).vcd; files = files_of texts }
 
-abbrev pub run_output : Case → Built → List Act → Output
-run_output k b acts = output_by k (streamed (pieces_of k b acts))
+abbrev pub run_output : Command → HostView → Built → List Act → Output
+run_output c h b acts = output_by c.texts (pieces_of c h b acts)
 
 -- ---- the answer
 
 -- the acts of the stimulus are run, or it is refused
-abbrev pub acts_answer : Case → Built → Result (List Act) StimFault → Answer
-acts_answer k b (Ok acts) = Texts (run_output k b acts)
-acts_answer k b (Err f) = Refused (text.stimulus_text f)
+abbrev pub acts_answer : Command → HostView → Built → Result (List Act) StimFault → Answer
+acts_answer c h b (Ok acts) = Written (run_output c h b acts)
+acts_answer c h b (Err f) = Refused (text.stimulus_text f)
 
-abbrev pub stim_answer : Case → Built → Option Bytes → Answer
-stim_answer k b None = Texts nothing
-stim_answer k b (Some bytes) = acts_answer k b (stim_acts (design_ports b.design) bytes)
+abbrev pub bytes_answer : Command → HostView → Built → Bytes → Answer
+bytes_answer c h b bytes = acts_answer c h b (stim_acts (design_ports b.design) bytes)
 
 -- a check ends where the model stands; otherwise the stimulus is read and run
-abbrev pub built_answer : Case → Built → Answer
-built_answer k b = stim_answer k b k.stim
+abbrev pub built_answer : Command → HostView → Built → Option Bytes → Answer
+built_answer c h b None = Written nothing
+built_answer c h b (Some bytes) = bytes_answer c h b bytes
 
 -- a fault that is the design's; want of memory is none
 abbrev pub is_of_model : BuildFault → Bool
@@ -104,5 +105,5 @@ model_text files (fault.TooMany kind) = text.too_many kind
 model_text files (fault.Loop places) = text.loop_text files places
 
 pub data ModelAnswer (k : Case) (d : Design) (a : Answer) : Type 0 where
-  Unbuilt : (f : BuildFault) → is_of_model f ≡ true → IsFault d (uses_of k d) f → a ≡ Refused (model_text k.command.files f) → ModelAnswer k d a
-  IsModel : (b : Built) → IsAccepted d (uses_of k d) → IsBuilt k d b → a ≡ built_answer k b → ModelAnswer k d a
+  Unbuilt : (f : BuildFault) → is_of_model f ≡ true → IsFault d (uses_of k.command k.host d) f → a ≡ Refused (model_text k.command.files f) → ModelAnswer k d a
+  IsModel : (b : Built) → IsAccepted d (uses_of k.command k.host d) → IsBuilt k.command k.host d b → a ≡ built_answer k.command k.host b k.stim → ModelAnswer k d a

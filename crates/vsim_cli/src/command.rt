@@ -1,52 +1,28 @@
 // What a command asks for.
+ghost use Rattle.std.specs.Prelude.{◌≡◌};
+ghost use Rattle.vsim_cli.specs.Case as spec;
+
 use dpi_host::Mode;
 use sim_session::Texts;
 use vs_base::Text;
-use vsim_words::{Action, Options};
+use vsim_words::Action;
 
 /// A command: the files of the design, the module at the top where one is named, which imports are deemed safe, and
 /// the files of the texts that a run writes besides standard output.
 #[derive(Drop)]
-pub struct Command {
-    pub files: Vec<Text>,
+pub struct Command<'a> {
+    pub files: &'a [Text],
     pub top: Option<Text>,
     pub mode: Mode,
     pub texts: Texts,
 }
 
-/// A command, and the name of the stimulus, where the design is to be run.
-#[derive(Drop)]
-pub struct Asked {
-    pub command: Command,
-    pub stim: Option<Text>,
-}
-
-// The stimulus that an action names.
-fn stim_of(action: Action) -> Option<Text> {
+/// The name of the stimulus, where the design is to be run.
+pub fn stim_of(action: Action) -> Option<Text>
+    ensures { result ≡ spec.stim_of action }
+{
     match action {
         Action::Lint => None,
         Action::Stim(name) => Some(name),
-    }
-}
-
-/// What the options ask for.
-pub fn asked_by(options: Options) -> Asked {
-    let Options {
-        files,
-        action,
-        top_module,
-        threads: _,
-        threads_dpi,
-        calls,
-        vcd,
-    } = options;
-    Asked {
-        command: Command {
-            files,
-            top: top_module,
-            mode: threads_dpi,
-            texts: Texts { calls, vcd },
-        },
-        stim: stim_of(action),
     }
 }

@@ -1,4 +1,4 @@
-use Rattle.std.proofs.Common.{◌≡◌, ◌+◌, ◌++◌, false, get_or, length}
+use Rattle.std.proofs.Common.{◌≡◌, ◌+◌, ◌++◌, false, length}
 use Rattle.std.specs.Prelude.{slice_index_or}
 use Rattle.model_build.specs.Imports.{uses_from}
 use Rattle.model_build.proofs.import.list_uses.Given as goal

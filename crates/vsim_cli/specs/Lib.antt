@@ -1,0 +1,13 @@
+pub mod Case
+pub mod Inputs
+pub mod InputLaws
+pub mod Lexing
+pub mod LexingLaws
+pub mod Model
+pub mod Check
+pub mod CheckLaws
+pub mod EndLaws
+pub mod Ends
+pub mod RunLaws
+pub mod ModelLaws
+pub mod StopLaws
