@@ -1,4 +1,13 @@
-pub mod Answer
-pub mod AnswerLaws
-pub mod Words
-pub mod Stages
+pub mod Case
+pub mod Inputs
+pub mod InputLaws
+pub mod Lexing
+pub mod LexingLaws
+pub mod Model
+pub mod Check
+pub mod CheckLaws
+pub mod EndLaws
+pub mod Ends
+pub mod RunLaws
+pub mod ModelLaws
+pub mod StopLaws

@@ -1,4 +1,0 @@
-pub mod Reading
-pub mod Building
-pub mod Answer
-pub mod View

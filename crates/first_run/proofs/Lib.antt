@@ -1,4 +1,0 @@
-mod NumberLemmas
-mod OrderLemmas
-mod RunLemmas
-mod Examples

@@ -1,7 +1,0 @@
-mod Digits
-mod Examples
-mod LineCuts
-mod Named
-mod Tails
-mod Turns
-mod WordCuts

@@ -1,9 +1,0 @@
-use Rattle.std.proofs.Common.{length}
-use Rattle.first_stim.proofs.Digits.{Reading}
-use Rattle.first_stim.proofs.hex.read_hex.Given as goal
-
-abbrev pub invariant-digits : goal.invariant-digits
-invariant-digits l = Reading l.text l.rest l.value
-
-abbrev pub decreases-digits : goal.decreases-digits
-decreases-digits l = length l.rest

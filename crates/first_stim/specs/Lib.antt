@@ -1,4 +1,0 @@
-pub mod FlatStimulus
-pub mod Places
-pub mod StimulusLaws
-pub mod Found
