@@ -1,15 +1,15 @@
 -- The files of a run, one after another.
-use Rattle.std.proofs.Common.{◌≡◌, ◌≤◌, ℕ, Bool, true, false, List, [], ◌∷◌, ◌++◌, refl, sym, ap, ◌∙◌, subst, append_assoc, arith, inl, inr}
-use Rattle.std.specs.Prelude.{◌⊎◌, Option, Some, None, IfSome, is_some}
+use Rattle.std.proofs.Common.{◌≡◌, ◌≤◌, ℕ, true, List, [], ◌∷◌, ◌++◌, refl, sym, ap, ◌∙◌, subst, append_assoc, arith, inl, inr}
+use Rattle.std.specs.Prelude.{Option, Some, None, is_some}
 use Rattle.std.specs.Option.{option_map}
 use Rattle.std.proofs.lemmas.List.{append-nil}
 use Rattle.vs_world.specs.declared.world.Stream.{Stream}
-use Rattle.vs_world.specs.declared.world.Stream.TheVariants.{Out, Errors, Calls, Vcd}
+use Rattle.vs_world.specs.declared.world.Stream.TheVariants.{Calls, Vcd}
 use Rattle.vs_world.specs.Outside.{Made, IsMade, IsOpen, IsCreatable, Rose}
 use Rattle.vs_world.specs.CountLaws.{rose_between}
 use Rattle.sim_session.specs.declared.fault.SessionFault.{SessionFault}
 use Rattle.sim_session.specs.declared.fault.SessionFault.TheVariants.{NoMemory}
-use Rattle.sim_session.specs.Pieces.{Piece, Seen, Wrote, Ended, IsOpened}
+use Rattle.sim_session.specs.Pieces.{Seen, IsOpened}
 use Rattle.sim_session.specs.Files.{named, and_made, Created, NotCreated, Uncreated}
 
 made_none : (told : Option Made) → told ≡ option_map (and_made []) told

@@ -1,7 +1,7 @@
 -- A design with an input a and an output y, and an import, and what the terms say of it.
-use Rattle.std.proofs.Common.{◌≡◌, ℕ, List, [], ◌∷◌, ◌++◌, true, false, Some, None, refl, lit≤}
+use Rattle.std.proofs.Common.{◌≡◌, ℕ, List, [], ◌∷◌, true, false, Some, None, refl, lit≤}
 use Rattle.std.specs.Prelude.{codes}
-use Rattle.vs_base.specs.Number.{Number, kept}
+use Rattle.vs_base.specs.Number.{Number}
 use Rattle.vs_base.specs.declared.types.ValueType.{ValueType}
 use Rattle.vs_base.specs.declared.act.Act.TheVariants.{Set, Eval, Clock}
 use Rattle.vs_world.specs.declared.world.Stream.TheVariants.{Out, Errors, Calls, Vcd}

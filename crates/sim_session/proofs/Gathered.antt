@@ -1,10 +1,10 @@
 -- The inputs out of the values of the ports.
-use Rattle.std.proofs.Common.{◌≡◌, ℕ, Bool, true, false, cond, List, [], ◌∷◌, ◌++◌, map, refl, sym, ap, ◌∙◌}
+use Rattle.std.proofs.Common.{◌≡◌, ℕ, Bool, true, false, cond, List, [], ◌∷◌, ◌++◌, map, refl, ap}
 use Rattle.vs_base.specs.Number.{Number}
 use Rattle.rtl_ir.specs.declared.design.Var.{Var}
 use Rattle.rtl_ir.specs.declared.design.Port.{Port}
 use Rattle.plan_types.specs.Machine.{width_of, input_vars}
-use Rattle.sim_session.specs.Inputs.{port_width, input_if, inputs_at}
+use Rattle.sim_session.specs.Inputs.{port_width, inputs_at}
 
 -- the width of the first of a list, and the widths of the others
 abbrev head_of : ℕ → List ℕ → ℕ

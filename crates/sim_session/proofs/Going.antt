@@ -1,5 +1,5 @@
 -- Evals under way: some are made, and these are left of all.
-use Rattle.std.proofs.Common.{◌≡◌, ℕ, List, [], ◌++◌, refl, sym, ap, ◌∙◌, append_assoc, subst}
+use Rattle.std.proofs.Common.{◌≡◌, ℕ, List, [], ◌++◌, refl, sym, ◌∙◌, append_assoc, subst}
 use Rattle.std.proofs.lemmas.List.{append-nil}
 use Rattle.vs_base.specs.Number.{Number}
 use Rattle.plan_types.specs.Machine.{Machine}

@@ -1,7 +1,7 @@
 -- An eval keeps the number of words.
-use Rattle.std.proofs.Common.{◌≡◌, ℕ, Bool, true, false, cond, List, [], ◌∷◌, length, refl, sym, ap, ◌∙◌}
-use Rattle.std.specs.Prelude.{slice_index, slice_set, Option, Some}
-use Rattle.std.specs.List.{fold, list_any}
+use Rattle.std.proofs.Common.{◌≡◌, ℕ, Bool, true, false, cond, List, [], ◌∷◌, length, refl, ◌∙◌}
+use Rattle.std.specs.Prelude.{slice_index}
+use Rattle.std.specs.List.{list_any}
 use Rattle.std.proofs.lemmas.List.{length-set}
 use Rattle.vs_base.specs.Number.{Number}
 use Rattle.rtl_ir.specs.declared.design.Proc.{Proc}
@@ -13,7 +13,7 @@ use Rattle.task_eval.specs.Buses.{Outside, store, call, reply, run}
 use Rattle.plan_types.specs.Coded.{code_number}
 use Rattle.plan_types.specs.declared.built.Built.{Built}
 use Rattle.plan_types.specs.declared.input.InputWord.{InputWord}
-use Rattle.plan_types.specs.Machine.{Machine, course_at, is_run, run_node, run_nodes, put_inputs, input_words, settled, clocked_if, clocked, evaluated, fired_of}
+use Rattle.plan_types.specs.Machine.{Machine, course_at, is_run, run_node, run_nodes, put_inputs, input_words, settled, evaluated, fired_of}
 
 run_length : (answer : Answer) (after : After) (c : Course) (o : Outside) → length (run answer after c o).words ≡ length o.words
 run_length answer after finished o = refl

@@ -1,5 +1,5 @@
 -- A whole run out of its parts.
-use Rattle.std.proofs.Common.{◌≡◌, ◌≤◌, ℕ, ◌++◌, ◌+◌, List, [], refl, sym, ap, ◌∙◌, subst, arith}
+use Rattle.std.proofs.Common.{◌≡◌, ◌≤◌, ℕ, List, [], ap, ◌∙◌, arith}
 use Rattle.std.specs.Option.{option_map}
 use Rattle.vs_base.specs.Number.{Number}
 use Rattle.vs_world.specs.Outside.{Made}

@@ -1,8 +1,8 @@
 -- What is set keeps its widths.
-use Rattle.std.proofs.Common.{◌≡◌, ℕ, zero, suc, Bool, true, false, List, [], ◌∷◌, map, refl, sym, ap, ◌∙◌, length, ◌+◌, ◌*◌, arith, length-append, subst, ◌<◌, ◌≤◌, ◌-◌, ◌++◌, take, drop}
+use Rattle.std.proofs.Common.{◌≡◌, ℕ, zero, suc, true, List, [], ◌∷◌, map, refl, sym, ap, ◌∙◌, length, ◌+◌, ◌*◌, arith, subst, ◌<◌, ◌≤◌, ◌-◌, ◌++◌, take, drop}
 use Rattle.std.specs.List.{list_all}
 use Rattle.std.proofs.Math.Seq.{take-length}
-use Rattle.std.specs.Prelude.{slice_set, slice_get, slice_index_or, ◌&&◌, Option, Some, None}
+use Rattle.std.specs.Prelude.{slice_set, slice_get, slice_index_or, Option, Some, None}
 use Rattle.std.specs.Option.{option_map_or}
 use Rattle.std.proofs.lemmas.Bool.{and_parts, eqb-true}
 use Rattle.vs_base.specs.Number.{Number}
@@ -15,8 +15,8 @@ use Rattle.plan_types.specs.Machine as machine
 use Rattle.plan_types.specs.Machine.{Machine}
 use Rattle.vcd_out.specs.Buffer.{Serves}
 use Rattle.stimulus.specs.Stimulus as stim
-use Rattle.sim_session.specs.Inputs.{port_width, width_if, width_at, lowered, turn_inputs, turns_inputs, after_turns, act_inputs, after_act, inputs_from, opening_ports}
-use Rattle.sim_session.specs.Ready.{IsSet, IsReady, Keeps}
+use Rattle.sim_session.specs.Inputs.{port_width, width_at, lowered, turn_inputs, turns_inputs, after_turns, act_inputs, after_act, inputs_from, opening_ports}
+use Rattle.sim_session.specs.Ready.{IsReady, Keeps}
 use Rattle.sim_session.specs.declared.session.Session.{Session}
 
 abbrev head_of : ℕ → List ℕ → ℕ

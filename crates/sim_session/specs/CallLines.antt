@@ -1,6 +1,6 @@
 -- The lines of an eval's calls in the call log.
 use Rattle.std.specs.Prelude.{ℕ, List, [], ◌∷◌, ◌++◌, codes, decimal, Option, Some, None, slice_get}
-use Rattle.vs_base.specs.Number.{Number, kept}
+use Rattle.vs_base.specs.Number.{kept}
 use Rattle.vs_base.specs.declared.types.ValueType.{ValueType}
 use Rattle.rtl_ir.specs.declared.design.Import.{Import}
 use Rattle.dpi_host.specs.Calls.{Call}

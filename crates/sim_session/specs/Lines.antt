@@ -1,6 +1,5 @@
 -- The line of an eval on standard output.
 use Rattle.std.specs.Prelude.{ℕ, zero, suc, ◌+◌, ◌/◌, List, [], ◌∷◌, ◌++◌, if◌then◌else◌, codes, decimal, Option, Some, None, slice_get}
-use Rattle.std.specs.List.{flat_map}
 use Rattle.vs_base.specs.Number.{Number, hex_digit_of}
 use Rattle.rtl_ir.specs.declared.design.Var.{Var}
 use Rattle.rtl_ir.specs.declared.design.Port.{Port}

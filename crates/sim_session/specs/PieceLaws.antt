@@ -1,14 +1,14 @@
 -- Laws of writing pieces.
-use Rattle.std.proofs.Common.{◌≡◌, ◌≤◌, ℕ, List, [], ◌∷◌, ◌++◌, Option, Some, None, refl, sym, ap, ◌∙◌, append_assoc, arith, take, drop, subst}
+use Rattle.std.proofs.Common.{◌≡◌, ℕ, List, [], ◌∷◌, ◌++◌, Option, Some, None, refl, sym, ap, ◌∙◌, append_assoc, arith, take, drop, subst}
 use Rattle.std.specs.Option.{option_map}
-use Rattle.std.proofs.lemmas.List.{append-nil, take-append-drop}
+use Rattle.std.proofs.lemmas.List.{take-append-drop}
 use Rattle.std.proofs.lemmas.List.Sums.{fold-append}
 use Rattle.vs_world.specs.declared.world.Stream.{Stream}
-use Rattle.vs_world.specs.Outside.{Written, appended, Rose}
+use Rattle.vs_world.specs.Outside.{Written, Rose}
 use Rattle.vs_world.specs.CountLaws.{rose_between}
 use Rattle.sim_session.specs.declared.fault.SessionFault.{SessionFault}
 use Rattle.sim_session.specs.declared.fault.SessionFault.TheVariants.{NoMemory, Create, World}
-use Rattle.sim_session.specs.Pieces.{Piece, Seen, with_piece, wrote, Wrote, Stopped, Failed, Ended}
+use Rattle.sim_session.specs.Pieces.{Piece, Seen, with_piece, wrote, Wrote, Stopped, Ended}
 
 told_none : (told : Option Written) → told ≡ option_map (wrote []) told
 told_none None = refl

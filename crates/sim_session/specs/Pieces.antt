@@ -1,9 +1,9 @@
 -- What a run does to the outside: it writes pieces, each to a stream, one after another.
-use Rattle.std.specs.Prelude.{◌≡◌, ◌==◌, ◌≤◌, ℕ, List, [], ◌∷◌, ◌++◌, Option, Some, None, Bool, true, if◌then◌else◌}
+use Rattle.std.specs.Prelude.{◌≡◌, ◌≤◌, ℕ, List, [], ◌∷◌, ◌++◌, Option, Bool, true}
 use Rattle.std.specs.Option.{option_map}
 use Rattle.std.specs.List.{fold}
 use Rattle.vs_world.specs.declared.world.Stream.{Stream}
-use Rattle.vs_world.specs.declared.world.Stream.TheVariants.{Out, Errors, Calls, Vcd}
+use Rattle.vs_world.specs.declared.world.Stream.TheVariants.{Calls, Vcd}
 use Rattle.vs_world.specs.Outside.{Files, Written, Made, appended, Rose, IsOpen}
 use Rattle.sim_session.specs.declared.fault.SessionFault.{SessionFault}
 use Rattle.sim_session.specs.declared.fault.SessionFault.TheVariants.{NoMemory, Create, World}

@@ -1,5 +1,5 @@
 -- What holds of a session between two evals.
-use Rattle.std.specs.Prelude.{◌≡◌, ◌<◌, ◌^◌, ℕ, List, map, length, true}
+use Rattle.std.specs.Prelude.{◌≡◌, ◌<◌, ◌^◌, List, map, length, true}
 use Rattle.std.specs.List.{list_all}
 use Rattle.vs_base.specs.Number.{Number}
 use Rattle.plan_types.specs.declared.built.Built.{Built}

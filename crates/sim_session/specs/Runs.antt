@@ -2,7 +2,6 @@
 use Rattle.std.specs.Prelude.{◌≡◌, ℕ, ◌+◌, List, [], ◌∷◌, ◌++◌, Bool, if◌then◌else◌, length}
 use Rattle.std.specs.List.{fold}
 use Rattle.vs_base.specs.Number.{Number}
-use Rattle.vs_base.specs.declared.act.Act.{Act}
 use Rattle.vs_world.specs.declared.world.Stream.TheVariants.{Out, Calls, Vcd}
 use Rattle.dpi_host.specs.Calls.{Call}
 use Rattle.dpi_host.specs.HostMachine.{Answer, After}

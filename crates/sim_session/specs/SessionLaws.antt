@@ -1,12 +1,10 @@
 -- The pieces of a session are for standard output, the call log and the waveform.
-use Rattle.std.proofs.Common.{◌≡◌, ℕ, ◌+◌, List, [], ◌∷◌, ◌++◌, Bool, true, false, refl, sym, ap, ◌∙◌}
-use Rattle.std.specs.Prelude.{◌&&◌, if◌then◌else◌}
+use Rattle.std.proofs.Common.{◌≡◌, ℕ, ◌+◌, List, [], ◌∷◌, Bool, true, false, refl, ap, ◌∙◌}
 use Rattle.vs_base.specs.Number.{Number}
 use Rattle.dpi_host.specs.Calls.{Call}
 use Rattle.rtl_ir.specs.declared.whole.Design.{Design}
 use Rattle.plan_types.specs.Machine.{Machine, kept_of, values_of}
-use Rattle.sim_session.specs.Pieces.{Piece}
-use Rattle.sim_session.specs.Runs.{Setting, after_eval, calls_pieces, changes_pieces, besides, texts, eval_pieces, run_pieces, header_pieces, session_pieces}
+use Rattle.sim_session.specs.Runs.{Setting, after_eval, calls_pieces, changes_pieces, texts, eval_pieces, run_pieces, header_pieces, session_pieces}
 use Rattle.sim_session.specs.RunLaws.{pieces_none, pieces_step, eval_is}
 use Rattle.sim_session.specs.Streams.{has_no_errors}
 use Rattle.sim_session.specs.StreamLaws.{append_has_no_errors}

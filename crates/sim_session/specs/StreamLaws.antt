@@ -1,7 +1,6 @@
 -- Laws of the texts of the streams.
-use Rattle.std.proofs.Common.{◌≡◌, ℕ, List, [], ◌∷◌, ◌++◌, Bool, true, false, Option, Some, None, refl, sym, ap, ◌∙◌, append_assoc, subst, inl, inr}
-use Rattle.std.specs.Prelude.{◌⊎◌, ◌&&◌}
-use Rattle.std.specs.List.{flat_map, list_all}
+use Rattle.std.proofs.Common.{◌≡◌, ℕ, List, [], ◌∷◌, ◌++◌, Bool, true, Option, Some, None, refl, sym, ap, ◌∙◌, append_assoc, inl, inr}
+use Rattle.std.specs.Prelude.{◌&&◌}
 use Rattle.std.specs.Option.{option_map}
 use Rattle.std.proofs.lemmas.List.{append-nil}
 use Rattle.std.proofs.lemmas.Bool.{and_parts}
@@ -12,9 +11,9 @@ use Rattle.vs_world.specs.Outside.{Written, Made, stream_bytes, appended, Rose}
 use Rattle.vs_world.specs.CountLaws.{rose_between}
 use Rattle.sim_session.specs.declared.fault.SessionFault.{SessionFault}
 use Rattle.sim_session.specs.declared.fault.SessionFault.TheVariants.{NoMemory, Create, World}
-use Rattle.sim_session.specs.Pieces.{Piece, Seen, wrote, with_piece, Wrote, Ended}
-use Rattle.sim_session.specs.Files.{and_made, Created, RunEnded}
-use Rattle.sim_session.specs.Streams.{Streamed, empty, left_on, text_on, streamed, is_text, has_no_errors, with_texts, IsFront, AreFronts, Begun, Partly}
+use Rattle.sim_session.specs.Pieces.{Piece, Seen, wrote, with_piece, Ended}
+use Rattle.sim_session.specs.Files.{and_made, RunEnded}
+use Rattle.sim_session.specs.Streams.{empty, left_on, text_on, streamed, is_text, has_no_errors, with_texts, IsFront, AreFronts, Begun, Partly}
 
 -- ---- what pieces leave on the streams
 

@@ -1,4 +1,4 @@
-use Rattle.std.proofs.Common.{◌≡◌, List, [], true, refl, sym, ap, subst}
+use Rattle.std.proofs.Common.{◌≡◌, [], true, refl, sym, ap, subst}
 use Rattle.vs_base.specs.declared.act.Act.{Act}
 use Rattle.stimulus.specs.Stimulus.{act_fits, design_ports}
 use Rattle.sim_session.specs.Inputs.{act_inputs}

@@ -1,7 +1,6 @@
-use Rattle.std.proofs.Common.{◌≡◌, ◌-◌, List, refl, sym, ap, ◌∙◌, subst, arith, length, take, drop}
+use Rattle.std.proofs.Common.{◌-◌, List, sym, ap, subst, arith, length, take, drop}
 use Rattle.vs_base.specs.Number.{Number}
-use Rattle.vs_base.specs.declared.act.Act.{Act}
-use Rattle.stimulus.specs.Stimulus.{act_fits, design_ports, evals_of}
+use Rattle.stimulus.specs.Stimulus.{design_ports}
 use Rattle.sim_session.specs.Inputs.{act_inputs, after_act, inputs_from}
 use Rattle.sim_session.specs.Pieces.{IsOpened}
 use Rattle.sim_session.proofs.Going.{going_start, going_more, going_cut, going_same}

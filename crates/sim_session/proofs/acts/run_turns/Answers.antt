@@ -1,4 +1,4 @@
-use Rattle.std.proofs.Common.{◌≡◌, ◌-◌, List, refl, sym, ap, ◌∙◌, subst, arith}
+use Rattle.std.proofs.Common.{◌-◌, List, refl, sym, ap, ◌∙◌, subst, arith}
 use Rattle.vs_base.specs.Number.{Number}
 use Rattle.sim_session.specs.Inputs.{turn_inputs, turns_inputs, after_turns, lowered}
 use Rattle.sim_session.specs.Pieces.{IsOpened}

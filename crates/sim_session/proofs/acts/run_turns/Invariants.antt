@@ -1,7 +1,5 @@
-use Rattle.std.proofs.Common.{◌≡◌, ◌<◌, ◌≤◌, ◌+◌, ◌*◌, ◌^◌, length, true}
-use Rattle.std.specs.List.{list_all}
-use Rattle.stimulus.specs.Stimulus.{act_fits, design_ports, evals_in}
-use Rattle.sim_session.specs.Inputs.{turns_inputs, after_turns, inputs_from}
+use Rattle.std.proofs.Common.{◌≡◌, ◌<◌, ◌+◌, ◌*◌, ◌^◌}
+use Rattle.sim_session.specs.Inputs.{turns_inputs, after_turns}
 use Rattle.sim_session.specs.Pieces.{seen, IsOpened}
 use Rattle.sim_session.specs.Runs.{setting}
 use Rattle.sim_session.specs.Ready.{IsReady}

@@ -1,4 +1,4 @@
-use Rattle.std.proofs.Common.{◌≡◌, ap, ◌∙◌, length}
+use Rattle.std.proofs.Common.{ap, ◌∙◌, length}
 use Rattle.plan_types.specs.Machine.{Machine}
 use Rattle.sim_session.specs.Inputs.{inputs_at}
 use Rattle.sim_session.proofs.Lengths.{evaluated_length}

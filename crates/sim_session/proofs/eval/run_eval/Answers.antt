@@ -1,4 +1,4 @@
-use Rattle.std.proofs.Common.{◌≡◌, List, refl, ap, ◌∙◌}
+use Rattle.std.proofs.Common.{List, refl, ap, ◌∙◌}
 use Rattle.vs_base.specs.Number.{Number}
 use Rattle.plan_types.specs.Machine.{evaluated}
 use Rattle.vcd_out.specs.Changes.{widths_of}

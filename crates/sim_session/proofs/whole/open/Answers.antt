@@ -1,4 +1,4 @@
-use Rattle.std.proofs.Common.{◌≡◌, List, ap, ◌∙◌, subst, map}
+use Rattle.std.proofs.Common.{List, ap, ◌∙◌, subst, map}
 use Rattle.vs_base.specs.Number.{Number}
 use Rattle.rtl_pieces.specs.declared.layout.Word.{Word}
 use Rattle.sim_session.specs.Inputs.{opening_ports}
