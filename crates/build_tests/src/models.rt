@@ -1,26 +1,15 @@
 //! Designs as text, and what is told of their models.
 
+use crate::texts::design_of;
 use dpi_host::Mode;
 use dpi_lib::LibHost;
-use logic_graph::graph_of;
 use model_build::{BuildFault, build};
-use order_levels::levels;
 use plan_graph::Node;
 use plan_types::{Built, ValidPlan};
-use rtl_flat::flatten;
-use rtl_ir::Design;
 use rtl_pieces::Word;
-use sqlite_items::Items;
 use std::alloc::Global;
 use std::test::Fail;
-use sv_elab::elaborate;
-use sv_lex::lex;
-use sv_parse::parse;
-use sv_tree::Names;
 use vs_base::Origin;
-
-/// More bytes than any text here has.
-const MOST: usize = 1_000_000;
 
 /// A text that grows. What no memory is left for is lost.
 #[derive(Drop)]
@@ -130,18 +119,6 @@ fn show_built(built: &Built, out: &mut Shown) {
     for deemed in built.deemed.as_slice() {
         out.put(if *deemed { b"safe " } else { b"kept " });
     }
-}
-
-/// The design of a text.
-fn design_of(alloc: Global, text: &[u8]) -> Result<Design, Fail> {
-    if text.len() > MOST {
-        return Err(Fail::from("long"));
-    }
-    let mut names = Names::new(alloc)?;
-    let tokens = lex(alloc, 0, text, &mut names)?;
-    let tree = parse(alloc, tokens.as_slice(), &names)?;
-    let scopes = elaborate(alloc, &tree, &names, None)?;
-    Ok(flatten(alloc, &tree, &names, &scopes)?)
 }
 
 /// What is told of the model of a text.
