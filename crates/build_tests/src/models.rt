@@ -1,26 +1,15 @@
 //! Designs as text, and what is told of their models.
 
+use crate::texts::design_of;
 use dpi_host::Mode;
 use dpi_lib::LibHost;
-use logic_graph::graph_of;
 use model_build::{BuildFault, build};
-use order_levels::levels;
 use plan_graph::Node;
 use plan_types::{Built, ValidPlan};
-use rtl_flat::flatten;
-use rtl_ir::Design;
 use rtl_pieces::Word;
-use sqlite_items::Items;
 use std::alloc::Global;
 use std::test::Fail;
-use sv_elab::elaborate;
-use sv_lex::lex;
-use sv_parse::parse;
-use sv_tree::Names;
 use vs_base::Origin;
-
-/// More bytes than any text here has.
-const MOST: usize = 1_000_000;
 
 /// A text that grows. What no memory is left for is lost.
 #[derive(Drop)]
@@ -132,18 +121,6 @@ fn show_built(built: &Built, out: &mut Shown) {
     }
 }
 
-/// The design of a text.
-fn design_of(alloc: Global, text: &[u8]) -> Result<Design, Fail> {
-    if text.len() > MOST {
-        return Err(Fail::from("long"));
-    }
-    let mut names = Names::new(alloc)?;
-    let tokens = lex(alloc, 0, text, &mut names)?;
-    let tree = parse(alloc, tokens.as_slice(), &names)?;
-    let scopes = elaborate(alloc, &tree, &names, None)?;
-    Ok(flatten(alloc, &tree, &names, &scopes)?)
-}
-
 /// What is told of the model of a text.
 fn model_of(alloc: Global, text: &[u8], mode: Mode) -> Result<Vec<u8>, Fail> {
     let design = design_of(alloc, text)?;
@@ -230,7 +207,12 @@ const TABLE: [(&[u8], Mode, &[u8]); 13] = [
 fn models_are_those_of_their_texts(rt: HostRuntime) -> Result<(), Fail> {
     for (text, mode, told) in TABLE {
         let found = model_of(rt.alloc(), text, mode)?;
-        assert_eq!(rt; String::from_utf8(found).unwrap_or(String::new(rt.alloc())).as_str(), std::str::from_utf8(told).unwrap_or(""));
+        assert_eq!(rt;
+            String::from_utf8(found)
+                .unwrap_or(String::new(rt.alloc()))
+                .as_str(),
+            std::str::from_utf8(told).unwrap_or("")
+        );
     }
     Ok(())
 }

@@ -34,6 +34,13 @@
 //! stands here is how they are joined, and the names of bits for messages. Each plan has one task, on thread 0, which runs
 //! its nodes in serial order; so no node has to wait for another, and the graphs of the plans have costs and no edges.
 //!
+//! # What is proved
+//!
+//! Each fault comes exactly where it holds and none before it does, and says the bit, the import, the kind or the places that
+//! its line in `specs/Answer.antt` says; at want of memory nothing is said. A model has the design that was given, the words of
+//! `cut`, the codes of `compile`, and two plans of the nodes in serial order (`specs/Plans.antt`), whose order of settling is that
+//! of `specs/Settle.antt`. What the type of a `Built` keeps is proved where it is made.
+//!
 //! # Cost
 //!
 //! That of the calls, each linear in what it goes over or n log n, and for the costs of commits the number of clocked processes

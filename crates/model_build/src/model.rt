@@ -161,7 +161,7 @@ fn in_order(alloc: Global, design: &Design, layout: &Layout) -> Result<Ordered, 
     Ok(Ordered { clocked, order })
 }
 
-fn words_of(alloc: Global, design: &Design) -> Result<Layout, BuildFault>
+pub(crate) fn words_of(alloc: Global, design: &Design) -> Result<Layout, BuildFault>
     requires procs { length design.now.procs < 2 ^ 32 }
     requires vars { length design.now.vars < 2 ^ 32 }
     requires mems { length design.now.mems < 2 ^ 32 }

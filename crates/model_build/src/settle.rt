@@ -45,8 +45,8 @@ pub(crate) fn is_clocked(process: &Proc) -> bool
     matches!(process.kind, ProcKind::Clocked(_))
 }
 
-// The numbers of the processes that are not clocked.
-fn combs_of(alloc: Global, clocked: &[bool]) -> Result<Vec<u32>, AllocError>
+/// The numbers of the processes that are not clocked.
+pub(crate) fn combs_of(alloc: Global, clocked: &[bool]) -> Result<Vec<u32>, AllocError>
     requires { length clocked.now < 2 ^ 32 }
     ensures { IfOk result (λ combs. combs.items ≡ comb_procs clocked.now) }
 {
@@ -86,8 +86,8 @@ pub(crate) fn settle_order(
     order_in(alloc, design.procs.as_slice(), combs.as_slice(), &graph)
 }
 
-// The graph of the combinational processes.
-fn read_graph(
+/// The graph of the combinational processes.
+pub(crate) fn read_graph(
     alloc: Global,
     design: &Design,
     layout: &Layout,

@@ -26,10 +26,10 @@ invariant_of-result g c =
     (ids_told (g.H.Host.id_of (g.H.Host.fixed c.args.host.now)) (g.H.Host.by_args (g.H.Host.fixed c.args.host.now)) c.args.mode
     c.args.design c.in_ok-uses.uses.items c.as_slice.result.now c.in_ok-parts.parts.ids c.in_ok-parts.ensures.ids c.as_slice.ensures.value c.in_ok-uses.ensures.uses) in
     record {
-        coded = c.in_ok-laid.ensures.count;
-        within = subst (λ (many : ℕ). AllWithin (length c.in_ok-laid.laid.layout.words.items) many c.in_ok-laid.laid.codes) (sym each_id) c.in_ok-laid.ensures.within;
-        deemed_each = each_deemed;
-        ids_each = each_id;
-        settle_codes = plan_has_codes c.args.design.procs c.in_ok-laid.laid.codes c.in_ok-laid.laid.order.items part.Settle c.in_ok-parts.parts.settle c.in_ok-laid.ensures.count c.in_ok-laid.ensures.order.within c.in_ok-parts.ensures.settle;
-        clocked_codes = plan_has_codes c.args.design.procs c.in_ok-laid.laid.codes c.in_ok-laid.laid.order.items part.Clocked c.in_ok-parts.parts.clocked c.in_ok-laid.ensures.count c.in_ok-laid.ensures.order.within c.in_ok-parts.ensures.clocked;
+      coded = c.in_ok-laid.ensures.count;
+      within = subst (λ (many : ℕ). AllWithin (length c.in_ok-laid.laid.layout.words.items) many c.in_ok-laid.laid.codes) (sym each_id) c.in_ok-laid.ensures.within;
+      deemed_each = each_deemed;
+      ids_each = each_id;
+      settle_codes = plan_has_codes c.args.design.procs c.in_ok-laid.laid.codes c.in_ok-laid.laid.order.items part.Settle c.in_ok-parts.parts.settle c.in_ok-laid.ensures.count c.in_ok-laid.ensures.order.within c.in_ok-parts.ensures.settle;
+      clocked_codes = plan_has_codes c.args.design.procs c.in_ok-laid.laid.codes c.in_ok-laid.laid.order.items part.Clocked c.in_ok-parts.parts.clocked c.in_ok-laid.ensures.count c.in_ok-laid.ensures.order.within c.in_ok-parts.ensures.clocked;
     }

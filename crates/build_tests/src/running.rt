@@ -1,0 +1,67 @@
+//! The run of a process of a model over a list of words.
+
+ghost use Rattle.std.specs.Prelude.{[], None, length};
+
+use crate::texts::design_of;
+use dpi_host::Mode;
+use dpi_lib::LibHost;
+use model_build::build;
+use plan_types::Built;
+use std::alloc::Global;
+use std::test::Fail;
+use task_eval::{Bus, Frame, run_node};
+
+/// Words in a list, and no import.
+#[derive(Drop)]
+pub struct Words {
+    list: Vec<u64>,
+}
+
+impl Bus for Words {
+    type Host = LibHost;
+
+    ghost outside = { λ b. record { words = b.list.items; fixed = []; state = []; ids = []; widths = []; made = None } };
+
+    fn load(&mut self, word: u32) -> u64 {
+        self.list[word as usize]
+    }
+
+    fn store(&mut self, word: u32, value: u64) {
+        self.list[word as usize] = value;
+    }
+
+    fn call(&mut self, _import: u32, _args: &[u64]) -> u64 {
+        0
+    }
+}
+
+/// Runs the first process of a model on its words, of which word 1 has this value and the others are 0.
+fn run_first(alloc: Global, built: &Built, value: u64) -> Result<Vec<u64>, Fail> {
+    let list = vec![in alloc; 0u64; built.layout.words.len()]?;
+    let mut words = Words { list };
+    if words.list.len() > 1 {
+        words.list[1] = value;
+    }
+    let codes = built.codes.as_slice();
+    let [code, ..] = codes else {
+        return Err(Fail::from("no process"));
+    };
+    if built.ids.len() != 0 {
+        return Err(Fail::from("imports"));
+    }
+    let mut frame = Frame::for_code(alloc, codes)?;
+    run_node(code, &mut words, &mut frame);
+    let Words { list } = words;
+    Ok(list)
+}
+
+#[test]
+fn a_loop_counts_the_ones(rt: HostRuntime) -> Result<(), Fail> {
+    let text =
+        b"module top(input [7:0] a, output logic [3:0] n); always_comb begin n = 0; for (int i = 0; i < 8; i++) n = n + a[i]; end endmodule";
+    let design = design_of(rt.alloc(), text)?;
+    let built = build(rt.alloc(), design, Mode::Pure, &LibHost::new())?;
+    let words = run_first(rt.alloc(), &built, 0xb7)?;
+    assert_eq!(rt; words.as_slice(), [0, 0xb7, 6].as_slice());
+    Ok(())
+}
