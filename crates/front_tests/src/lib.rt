@@ -8,8 +8,6 @@ mod designs;
 #[cfg(test)]
 mod fronts;
 #[cfg(test)]
-mod lint;
-#[cfg(test)]
 mod macros;
 #[cfg(test)]
 mod terms;

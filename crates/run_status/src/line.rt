@@ -289,18 +289,6 @@ pub fn cannot_write<W: World>(world: &mut W, stream: Stream) -> Status
     }
 }
 
-/// Tries the line `cannot write out` after a failing write to standard output, and gives `WorldFault`.
-pub fn cannot_write_out<W: World>(world: &mut W) -> Status
-    ensures status { result ≡ Status.WorldFault }
-    ensures told { Tells (codes "cannot write out") (W.written world.old) (W.written world.new) (W.faults world.old) (W.faults world.new) }
-    ensures rest { OnlyWrites (W.faults world.old) (W.faults world.new) (W.absent world.old) (W.absent world.new) (W.files world.old) (W.files world.new) (W.made world.old) (W.made world.new) }
-{
-    match tell(world, b"cannot write out", b"") {
-        Ok(()) => Status::WorldFault,
-        Err(()) => Status::WorldFault,
-    }
-}
-
 /// Tries the line `out of memory`, and gives `NoMemory` whether it was written or not.
 pub fn out_of_memory<W: World>(world: &mut W) -> Status
     ensures status { result ≡ Status.NoMemory }
