@@ -109,16 +109,15 @@ fn write(alloc: Global, target: u32, value: Expr) -> Result<Items<Stmt>, AllocEr
     Ok(body)
 }
 
-/// Adds the process `TARGET = VALUE`, on the line of its number.
+/// Adds the process `TARGET = VALUE`, on the line of its target.
 fn add(alloc: Global, procs: &mut Items<Proc>, target: u32, value: Expr) -> Result<(), AllocError> {
     let body = write(alloc, target, value)?;
-    let line = procs.len() as u32;
     procs.push(Proc {
         kind: ProcKind::Comb,
         body,
         at: Origin {
             file: 0,
-            line,
+            line: target,
             col: 1,
         },
     })
