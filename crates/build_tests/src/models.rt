@@ -207,7 +207,12 @@ const TABLE: [(&[u8], Mode, &[u8]); 13] = [
 fn models_are_those_of_their_texts(rt: HostRuntime) -> Result<(), Fail> {
     for (text, mode, told) in TABLE {
         let found = model_of(rt.alloc(), text, mode)?;
-        assert_eq!(rt; String::from_utf8(found).unwrap_or(String::new(rt.alloc())).as_str(), std::str::from_utf8(told).unwrap_or(""));
+        assert_eq!(rt;
+            String::from_utf8(found)
+                .unwrap_or(String::new(rt.alloc()))
+                .as_str(),
+            std::str::from_utf8(told).unwrap_or("")
+        );
     }
     Ok(())
 }

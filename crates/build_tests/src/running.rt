@@ -57,7 +57,8 @@ fn run_first(alloc: Global, built: &Built, value: u64) -> Result<Vec<u64>, Fail>
 
 #[test]
 fn a_loop_counts_the_ones(rt: HostRuntime) -> Result<(), Fail> {
-    let text = b"module top(input [7:0] a, output logic [3:0] n); always_comb begin n = 0; for (int i = 0; i < 8; i++) n = n + a[i]; end endmodule";
+    let text =
+        b"module top(input [7:0] a, output logic [3:0] n); always_comb begin n = 0; for (int i = 0; i < 8; i++) n = n + a[i]; end endmodule";
     let design = design_of(rt.alloc(), text)?;
     let built = build(rt.alloc(), design, Mode::Pure, &LibHost::new())?;
     let words = run_first(rt.alloc(), &built, 0xb7)?;
