@@ -22,7 +22,7 @@ mod line;
 mod status;
 
 pub use line::{
-    cannot_create, cannot_read, cannot_write, file_name, out_of_memory, refuse,
-    refuse_about, refuse_at, refuse_listed,
+    cannot_create, cannot_read, cannot_write, file_name, out_of_memory, refuse, refuse_about,
+    refuse_at, refuse_listed,
 };
 pub use status::Status;
