@@ -9,7 +9,7 @@ use Rattle.vs_world.specs.Outside.{Written, Made, appended, Rose}
 use Rattle.vs_world.specs.CountLaws.{rose_before, rose_between}
 use Rattle.run_status.specs.declared.status.Status.{Status}
 use Rattle.run_status.specs.declared.status.Status.TheVariants as status
-use Rattle.run_status.specs.Written.{IsPrefix, Said}
+use Rattle.run_status.specs.Written.{IsPrefix}
 use Rattle.run_status.specs.WrittenLaws.{IsPrefix-whole}
 use Rattle.run_status.specs.Lines.{not_created, not_written}
 use Rattle.run_status.specs.Answer.{Output, only_files, nothing, Answer, Refused, Unread, Texts, output_of, error_line, Tells, Refuses, with_appended, with_made, Appends, AreFronts, FaultCause, FaultLine, OfRefusal, OfRead, OfCreate, OfWrite, TellsUnread, SaysWanting, Ends, Table}
