@@ -52,10 +52,7 @@ fn copy_kind(alloc: Global, kind: &ProcKind) -> Result<ProcKind, AllocError>
     match kind {
         ProcKind::Comb => Ok(ProcKind::Comb),
         ProcKind::Clocked(events) => {
-            Ok(ProcKind::Clocked(Items::from_slice(
-                alloc,
-                events.as_slice(),
-            )?))
+            Ok(ProcKind::Clocked(Items::from_slice(alloc, events.as_slice())?))
         }
     }
 }

@@ -28,17 +28,11 @@ fn copy_node(alloc: Global, node: &ExprNode) -> Result<ExprNode, AllocError>
         ExprNode::Read(target) => Ok(ExprNode::Read(copy_target(alloc, target)?)),
         ExprNode::Prefix(operators, operand) => {
             let operators = Items::from_slice(alloc, operators.as_slice())?;
-            Ok(ExprNode::Prefix(
-                operators,
-                copy_boxed(alloc, operand.get())?,
-            ))
+            Ok(ExprNode::Prefix(operators, copy_boxed(alloc, operand.get())?))
         }
         ExprNode::Level(operands, operators) => {
             let operators = Items::from_slice(alloc, operators.as_slice())?;
-            Ok(ExprNode::Level(
-                copy_exprs(alloc, operands.as_slice())?,
-                operators,
-            ))
+            Ok(ExprNode::Level(copy_exprs(alloc, operands.as_slice())?, operators))
         }
         ExprNode::Choose(choices, last) => {
             let choices = copy_choices(alloc, choices.as_slice())?;
@@ -46,10 +40,7 @@ fn copy_node(alloc: Global, node: &ExprNode) -> Result<ExprNode, AllocError>
         }
         ExprNode::Concat(parts) => Ok(ExprNode::Concat(copy_exprs(alloc, parts.as_slice())?)),
         ExprNode::Repeat(times, parts) => {
-            Ok(ExprNode::Repeat(
-                *times,
-                copy_exprs(alloc, parts.as_slice())?,
-            ))
+            Ok(ExprNode::Repeat(*times, copy_exprs(alloc, parts.as_slice())?))
         }
         ExprNode::Call(call) => Ok(ExprNode::Call(copy_call(alloc, call)?)),
         ExprNode::Sign(operand) => Ok(ExprNode::Sign(copy_boxed(alloc, operand.get())?)),

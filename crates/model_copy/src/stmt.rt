@@ -34,11 +34,7 @@ fn copy_stmt(alloc: Global, stmt: &Stmt) -> Result<Stmt, AllocError>
         Stmt::Case(subject, arms, rest) => {
             let subject = copy_expr(alloc, subject)?;
             let arms = copy_arms(alloc, arms.as_slice())?;
-            Ok(Stmt::Case(
-                subject,
-                arms,
-                copy_stmts(alloc, rest.as_slice())?,
-            ))
+            Ok(Stmt::Case(subject, arms, copy_stmts(alloc, rest.as_slice())?))
         }
         Stmt::Do(call) => Ok(Stmt::Do(copy_call(alloc, call)?)),
     }

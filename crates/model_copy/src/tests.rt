@@ -7,7 +7,8 @@ use dpi_host::NoMemory;
 use plan_graph::{Graph, Node};
 use plan_types::{Built, ValidPlan};
 use rtl_ir::{
-    Branch, Design, Event, Expr, ExprNode, FlatScope, Place, Proc, ProcKind, Stmt, Target, Var, Width,
+    Branch, Design, Event, Expr, ExprNode, FlatScope, Place, Proc, ProcKind, Stmt, Target, Var,
+    Width,
 };
 use rtl_pieces::{BitRef, Layout, Word};
 use sqlite_items::Items;
@@ -78,10 +79,7 @@ fn expr(node: ExprNode) -> Expr {
 // y = q
 fn assigned(alloc: Global) -> Result<Stmt, NoMemory> {
     let parts = list(alloc, [target(2)])?;
-    Ok(Stmt::Write(
-        Place { parts },
-        expr(ExprNode::Read(target(1))),
-    ))
+    Ok(Stmt::Write(Place { parts }, expr(ExprNode::Read(target(1)))))
 }
 
 // if (q) q <= 7
@@ -153,7 +151,14 @@ fn design(alloc: Global) -> Result<Design, NoMemory>
     let procs = procs(alloc)?;
     let scopes = scopes(alloc)?;
     let none = Items::new(alloc);
-    match Design::new(vars, Items::new(alloc), procs, none, Items::new(alloc), scopes) {
+    match Design::new(
+        vars,
+        Items::new(alloc),
+        procs,
+        none,
+        Items::new(alloc),
+        scopes,
+    ) {
         Some(design) => Ok(design),
         None => Err(NoMemory),
     }
@@ -315,9 +320,22 @@ fn a_copy_has_the_parts_of_its_model(rt: HostRuntime) -> Result<(), Fail> {
     };
     assert!(rt; matches!(clocked.kind, ProcKind::Clocked(_)));
     assert!(rt; is_stepped(clocked.body.as_slice()));
-    assert_eq!(rt; copy.layout.words.as_slice(), [word(0, 0, false), word(0, 1, false), word(1, 8, false), word(2, 8, false), word(1, 8, true)].as_slice());
+    assert_eq!(rt;
+        copy.layout.words.as_slice(),
+        [
+            word(0, 0, false),
+            word(0, 1, false),
+            word(1, 8, false),
+            word(2, 8, false),
+            word(1, 8, true)
+        ]
+        .as_slice()
+    );
     assert_eq!(rt; copy.codes.len(), 3);
     assert_eq!(rt; copy.settle.nodes.as_slice(), [Node::Comb(0)].as_slice());
-    assert_eq!(rt; copy.clocked.nodes.as_slice(), [Node::Body(1), Node::Commit(1), Node::Comb(0)].as_slice());
+    assert_eq!(rt;
+        copy.clocked.nodes.as_slice(),
+        [Node::Body(1), Node::Commit(1), Node::Comb(0)].as_slice()
+    );
     Ok(())
 }
