@@ -251,7 +251,7 @@ struct Plans {
     clocked: ValidPlan,
 }
 
-fn plans(alloc: Global) -> Result<Plans, NoMemory>
+fn both_plans(alloc: Global) -> Result<Plans, NoMemory>
     ensures settle { IfOk result (λ plans. plans.settle.nodes ≡ Node.Comb 0 ∷ []) }
     ensures clocked { IfOk result (λ plans. plans.clocked.nodes ≡ Node.Body 1 ∷ Node.Commit 1 ∷ Node.Comb 0 ∷ []) }
 {
@@ -267,7 +267,7 @@ struct Words {
     codes: Items<Code>,
 }
 
-fn words(alloc: Global) -> Result<Words, NoMemory>
+fn words_and_codes(alloc: Global) -> Result<Words, NoMemory>
     ensures words { IfOk result (λ words. length words.layout.words.items ≡ 5) }
     ensures within { IfOk result (λ words. AllWithin 5 0 words.codes) }
     ensures many { IfOk result (λ words. length words.codes ≡ 3) }
@@ -279,8 +279,8 @@ fn words(alloc: Global) -> Result<Words, NoMemory>
 
 fn model(alloc: Global) -> Result<Built, NoMemory> {
     let design = design(alloc)?;
-    let plans = plans(alloc)?;
-    let words = words(alloc)?;
+    let plans = both_plans(alloc)?;
+    let words = words_and_codes(alloc)?;
     Ok(Built {
         design,
         layout: words.layout,
