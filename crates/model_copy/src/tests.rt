@@ -295,8 +295,8 @@ fn name(vars: &[Var], number: usize) -> &[u8] {
 }
 
 fn is_design(design: &Design) -> bool {
-    let clk = name(design.vars.as_slice(), 0) == b"clk";
-    let y = name(design.vars.as_slice(), 2) == b"y";
+    let clk = name(design.vars.as_slice(), 0) == b"clk".as_slice();
+    let y = name(design.vars.as_slice(), 2) == b"y".as_slice();
     clk && y && design.procs.len() == 2 && design.scopes.len() == 1
 }
 
