@@ -45,7 +45,5 @@ mod design;
 mod expr;
 mod plan;
 mod stmt;
-#[cfg(test)]
-mod tests;
 
 pub use built::copy_built;
