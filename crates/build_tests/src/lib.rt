@@ -4,6 +4,8 @@
 #![tactic(auto)]
 
 #[cfg(test)]
+mod echo;
+#[cfg(test)]
 mod models;
 #[cfg(test)]
 mod running;

@@ -1,26 +1,28 @@
-//! The run of a process of a model over a list of words.
+//! The run of a process of a model, and of its copy, over a list of words.
 
-ghost use Rattle.std.specs.Prelude.{[], None, length};
+ghost use Rattle.std.specs.Prelude.{[], ◌∷◌, None, length};
 
+use crate::echo::Echo;
 use crate::texts::design_of;
-use dpi_host::Mode;
+use dpi_host::{Mode, argument};
 use dpi_lib::LibHost;
 use model_build::build;
+use model_copy::copy_built;
 use plan_types::Built;
 use std::alloc::Global;
 use std::test::Fail;
 use task_eval::{Bus, Frame, run_node};
 
-/// Words in a list, and no import.
+/// Words in a list, and an import with a result of 8 bits.
 #[derive(Drop)]
 pub struct Words {
     list: Vec<u64>,
 }
 
 impl Bus for Words {
-    type Host = LibHost;
+    type Host = Echo;
 
-    ghost outside = { λ b. record { words = b.list.items; fixed = []; state = []; ids = []; widths = []; made = None } };
+    ghost outside = { λ b. record { words = b.list.items; fixed = []; state = []; ids = 0 ∷ []; widths = 8 ∷ []; made = None } };
 
     fn load(&mut self, word: u32) -> u64 {
         self.list[word as usize]
@@ -30,8 +32,8 @@ impl Bus for Words {
         self.list[word as usize] = value;
     }
 
-    fn call(&mut self, _import: u32, _args: &[u64]) -> u64 {
-        0
+    fn call(&mut self, _import: u32, args: &[u64]) -> u64 {
+        argument(args, 0) % 256
     }
 }
 
@@ -46,7 +48,7 @@ fn run_first(alloc: Global, built: &Built, value: u64) -> Result<Vec<u64>, Fail>
     let [code, ..] = codes else {
         return Err(Fail::from("no process"));
     };
-    if built.ids.len() != 0 {
+    if built.ids.len() != 1 {
         return Err(Fail::from("imports"));
     }
     let mut frame = Frame::for_code(alloc, codes)?;
@@ -57,11 +59,21 @@ fn run_first(alloc: Global, built: &Built, value: u64) -> Result<Vec<u64>, Fail>
 
 #[test]
 fn a_loop_counts_the_ones(rt: HostRuntime) -> Result<(), Fail> {
-    let text =
-        b"module top(input [7:0] a, output logic [3:0] n); always_comb begin n = 0; for (int i = 0; i < 8; i++) n = n + a[i]; end endmodule";
+    let text = b"import \"DPI-C\" pure function byte echo(byte x); module top(input [7:0] a, output logic [3:0] n); always_comb begin n = 0; for (int i = 0; i < 8; i++) n = n + a[i]; end endmodule";
     let design = design_of(rt.alloc(), text)?;
     let built = build(rt.alloc(), design, Mode::Pure, &LibHost::new())?;
     let words = run_first(rt.alloc(), &built, 0xb7)?;
     assert_eq!(rt; words.as_slice(), [0, 0xb7, 6].as_slice());
+    Ok(())
+}
+
+#[test]
+fn a_copy_runs_as_its_model(rt: HostRuntime) -> Result<(), Fail> {
+    let text = b"import \"DPI-C\" pure function byte echo(byte x); module top(input [7:0] a, output [7:0] y); assign y = a + 1; endmodule";
+    let design = design_of(rt.alloc(), text)?;
+    let built = build(rt.alloc(), design, Mode::Pure, &LibHost::new())?;
+    let copy = copy_built(rt.alloc(), &built)?;
+    let words = run_first(rt.alloc(), &copy, 0xff)?;
+    assert_eq!(rt; words.as_slice(), [0, 0xff, 0].as_slice());
     Ok(())
 }
