@@ -59,7 +59,8 @@ fn run_first(alloc: Global, built: &Built, value: u64) -> Result<Vec<u64>, Fail>
 
 #[test]
 fn a_loop_counts_the_ones(rt: HostRuntime) -> Result<(), Fail> {
-    let text = b"import \"DPI-C\" pure function byte echo(byte x); module top(input [7:0] a, output logic [3:0] n); always_comb begin n = 0; for (int i = 0; i < 8; i++) n = n + a[i]; end endmodule";
+    let text =
+        b"import \"DPI-C\" pure function byte echo(byte x); module top(input [7:0] a, output logic [3:0] n); always_comb begin n = 0; for (int i = 0; i < 8; i++) n = n + a[i]; end endmodule";
     let design = design_of(rt.alloc(), text)?;
     let built = build(rt.alloc(), design, Mode::Pure, &LibHost::new())?;
     let words = run_first(rt.alloc(), &built, 0xb7)?;
@@ -69,7 +70,8 @@ fn a_loop_counts_the_ones(rt: HostRuntime) -> Result<(), Fail> {
 
 #[test]
 fn a_copy_runs_as_its_model(rt: HostRuntime) -> Result<(), Fail> {
-    let text = b"import \"DPI-C\" pure function byte echo(byte x); module top(input [7:0] a, output [7:0] y); assign y = a + 1; endmodule";
+    let text =
+        b"import \"DPI-C\" pure function byte echo(byte x); module top(input [7:0] a, output [7:0] y); assign y = a + 1; endmodule";
     let design = design_of(rt.alloc(), text)?;
     let built = build(rt.alloc(), design, Mode::Pure, &LibHost::new())?;
     let copy = copy_built(rt.alloc(), &built)?;
