@@ -57,25 +57,41 @@ fn run_first(alloc: Global, built: &Built, value: u64) -> Result<Vec<u64>, Fail>
     Ok(list)
 }
 
+/// The model of a text.
+fn model_of(alloc: Global, text: &[u8]) -> Result<Built, Fail> {
+    let design = design_of(alloc, text)?;
+    Ok(build(alloc, design, Mode::Pure, &LibHost::new())?)
+}
+
+/// Runs the first process of the model of a text.
+fn run_model(alloc: Global, text: &[u8], value: u64) -> Result<Vec<u64>, Fail> {
+    let built = model_of(alloc, text)?;
+    run_first(alloc, &built, value)
+}
+
+/// Runs the first process of a copy of the model of a text.
+fn run_copy(alloc: Global, text: &[u8], value: u64) -> Result<Vec<u64>, Fail> {
+    let built = model_of(alloc, text)?;
+    let copy = copy_built(alloc, &built)?;
+    run_first(alloc, &copy, value)
+}
+
+const ONES: &[u8] =
+    b"import \"DPI-C\" pure function byte echo(byte x); module top(input [7:0] a, output logic [3:0] n); always_comb begin n = 0; for (int i = 0; i < 8; i++) n = n + a[i]; end endmodule";
+
+const NEXT: &[u8] =
+    b"import \"DPI-C\" pure function byte echo(byte x); module top(input [7:0] a, output [7:0] y); assign y = a + 1; endmodule";
+
 #[test]
 fn a_loop_counts_the_ones(rt: HostRuntime) -> Result<(), Fail> {
-    let text =
-        b"import \"DPI-C\" pure function byte echo(byte x); module top(input [7:0] a, output logic [3:0] n); always_comb begin n = 0; for (int i = 0; i < 8; i++) n = n + a[i]; end endmodule";
-    let design = design_of(rt.alloc(), text)?;
-    let built = build(rt.alloc(), design, Mode::Pure, &LibHost::new())?;
-    let words = run_first(rt.alloc(), &built, 0xb7)?;
+    let words = run_model(rt.alloc(), ONES, 0xb7)?;
     assert_eq!(rt; words.as_slice(), [0, 0xb7, 6].as_slice());
     Ok(())
 }
 
 #[test]
 fn a_copy_runs_as_its_model(rt: HostRuntime) -> Result<(), Fail> {
-    let text =
-        b"import \"DPI-C\" pure function byte echo(byte x); module top(input [7:0] a, output [7:0] y); assign y = a + 1; endmodule";
-    let design = design_of(rt.alloc(), text)?;
-    let built = build(rt.alloc(), design, Mode::Pure, &LibHost::new())?;
-    let copy = copy_built(rt.alloc(), &built)?;
-    let words = run_first(rt.alloc(), &copy, 0xff)?;
+    let words = run_copy(rt.alloc(), NEXT, 0xff)?;
     assert_eq!(rt; words.as_slice(), [0, 0xff, 0].as_slice());
     Ok(())
 }
