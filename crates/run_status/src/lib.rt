@@ -10,7 +10,7 @@
 //! earlier stage to a later one.
 //!
 //! ```text
-//! refuse(world, b"d.sv", b": not built yet")    // vsim: d.sv: not built yet    Refused, or WorldFault
+//! refuse(world, b"d.sv", b": longer than 4194304 bytes")    // vsim: d.sv: longer than 4194304 bytes    Refused, or WorldFault
 //! refuse_at(world, b"d.sv", at, b"unknown macro ", b"W")    // vsim: d.sv:1:9: unknown macro W
 //! refuse_listed(world, files, b"loop of ", b"2", places)     // vsim: loop of 2: d.sv:1:33 d.sv:1:47
 //! cannot_read(world, b"none.sv")                // vsim: cannot read none.sv    WorldFault
