@@ -1,9 +1,9 @@
 -- An expression means what its form says of its parts, and what the walks keep of concatenations is that.
-use Rattle.std.proofs.Common.{◌≡◌, ◌≤◌, ◌<◌, ℕ, zero, suc, length, take, get_or, [], ◌∷◌, subst, ◌+◌, ◌-◌, ◌^◌, min, true, false, cond, List, map, Option, refl, sym, ap, ◌∙◌, arith, ℤ, pos, ◌*ℤ◌}
+use Rattle.std.proofs.Common.{◌≡◌, ◌≤◌, ◌<◌, ℕ, zero, suc, length, take, get_or, [], ◌∷◌, subst, ◌+◌, ◌-◌, ◌^◌, min, Bool, true, false, cond, List, map, Option, refl, sym, ap, ◌∙◌, arith, ℤ, pos, ◌*ℤ◌}
 use Rattle.std.proofs.lemmas.List.{take_all}
 use Rattle.std.proofs.lemmas.List.Sums.{fold_more}
 use Rattle.vs_base.specs.declared.types.ValueType.{ValueType}
-use Rattle.vs_base.specs.Number.{Number}
+use Rattle.vs_base.specs.Number.{Number, reading}
 use Rattle.vs_base.specs.Operators.{joined, repeated}
 use Rattle.sv_tree.specs.declared.token.Token.{Token}
 use Rattle.sv_tree.specs.declared.tree.expr.Expr.{Expr}
@@ -16,8 +16,8 @@ use Rattle.sv_sem.specs.Types.{in_context}
 use Rattle.sv_expr.specs.Bound.{IsWidth, ◌before◌, is_width, whole_part, ranged}
 use Rattle.sv_expr.specs.Literal.{nothing}
 use Rattle.sv_expr.specs.Environment.{Environment}
-use Rattle.sv_expr.specs.Meaning.{Meaning, alone, parts_fault, parts_width, parts_value, concatenated, meaning_of, args_fault, select_typed, operand_of}
-use Rattle.sv_expr.specs.Walk.{steps_joined, steps_width, steps_value, Joins}
+use Rattle.sv_expr.specs.Meaning.{Meaning, alone, own_reading, parts_fault, parts_width, parts_value, concatenated, meaning_of, args_fault, select_typed, operand_of}
+use Rattle.sv_expr.specs.Walk.{steps_joined, steps_width, steps_value, times_number, Joins}
 use Rattle.sv_expr.proofs.Walks.{parts_fault_is, steps_width_is, parts_width_is, parts_value_is}
 use Rattle.sv_expr.proofs.Ranges.{ranged_capped, width_capped, counts}
 
@@ -30,6 +30,12 @@ module _ (env : Environment) where
 
   pub value_by : {e f : Expr} {m : Meaning} {context : ValueType} {r : Number} → e ≡ f → meaning_of env f ≡ m → r ≡ m.value context → r ≡ (meaning_of env e).value context
   value_by {context = context} is means h = h ∙ sym (ap (λ (m : Meaning). m.value context) (ap (meaning_of env) is ∙ means))
+
+  pub own_by : {e f : Expr} {m : Meaning} {r : ℤ} → e ≡ f → meaning_of env f ≡ m → r ≡ own_reading m → r ≡ own_reading (meaning_of env e)
+  own_by is means h = h ∙ sym (ap (λ (m : Meaning). own_reading m) (ap (meaning_of env) is ∙ means))
+
+  pub fault_by : {e f : Expr} {m : Meaning} {r : Option WalkFault} → e ≡ f → meaning_of env f ≡ m → r ≡ m.typed.fault → r ≡ (meaning_of env e).typed.fault
+  fault_by is means h = h ∙ sym (ap (λ (m : Meaning). m.typed.fault) (ap (meaning_of env) is ∙ means))
 
   pub args_by : {e f : Args} {r s : Option WalkFault} → e ≡ f → args_fault env f ≡ s → r ≡ s → r ≡ args_fault env e
   args_by is means h = h ∙ sym (ap (args_fault env) is ∙ means)
@@ -57,21 +63,6 @@ module _ (env : Environment) where
   fits_is count m more small =
       ap (λ (w : ℕ). is_width (whole_part (count *ℤ pos w))) (width_is m more small) ∙ width_capped count (parts_width m (map (operand_of env) more))
 
-  pub concatenated_none : (brace : Token) (earlier : Option WalkFault) (count : ℤ) (m : Meaning) (more : List Step) (context : ValueType) → IsWidth m.typed.kind.width
-      → is_width (whole_part (count *ℤ pos (steps_joined env m.typed more).kind.width)) ≡ false
-      → nothing context ≡ (concatenated brace earlier count m (map (operand_of env) more)).value context
-  concatenated_none brace earlier count m more context small over =
-      let value : Number = in_context (repeated (whole_part count) (parts_value m (map (operand_of env) more))) context in
-      ap (λ b. cond b value (nothing context)) (sym over ∙ fits_is count m more small)
-
-  pub concatenated_some : (brace : Token) (earlier : Option WalkFault) (count : ℤ) (m : Meaning) (more : List Step) (context : ValueType) → IsWidth m.typed.kind.width
-      → is_width (whole_part (count *ℤ pos (steps_joined env m.typed more).kind.width)) ≡ true
-      → in_context (repeated (whole_part count) (steps_value env (alone m) more)) context ≡ (concatenated brace earlier count m (map (operand_of env) more)).value context
-  concatenated_some brace earlier count m more context small within =
-      ap (λ (n : Number). in_context (repeated (whole_part count) n) context) (parts_value_is env (alone m) more)
-      ∙ (let value : Number = in_context (repeated (whole_part count) (parts_value m (map (operand_of env) more))) context in
-      ap (λ b. cond b value (nothing context)) (sym within ∙ fits_is count m more small))
-
   pub parts_fit : (count : ℤ) (m : Meaning) (more : List Step) → IsWidth m.typed.kind.width
       → is_width (whole_part (count *ℤ pos (steps_joined env m.typed more).kind.width)) ≡ true → m.typed.kind.width + steps_width env more ≤ 64
   parts_fit count m more small within =
@@ -79,11 +70,50 @@ module _ (env : Environment) where
       let same : steps_width env more ≡ _ = steps_width_is env more in
       omega arith
 
-  pub count_fits : (count : ℤ) (m : Meaning) (more : List Step) (width : ℕ) → IsWidth m.typed.kind.width
-      → is_width (whole_part (count *ℤ pos (steps_joined env m.typed more).kind.width)) ≡ true → width ≡ m.typed.kind.width + steps_width env more → is_width (whole_part (count *ℤ pos width)) ≡ true
-  count_fits count m more width small within is =
-      ap (λ (w : ℕ). is_width (whole_part (count *ℤ pos w))) (is ∙ ap (λ (w : ℕ). m.typed.kind.width + w) (steps_width_is env more))
-      ∙ sym (fits_is count m more small) ∙ within
+  -- so many times the parts, where they are a width that a type may have and elsewhere
+  pub concatenated_value : (brace : Token) (earlier : Option WalkFault) (count : ℤ) (m : Meaning) (more : List Step) (n : Number) (context : ValueType) → IsWidth m.typed.kind.width
+      → (alone m).width ≡ m.typed.kind.width → Joins env (alone m) more more n
+      → times_number count (steps_joined env m.typed more).kind.width n context ≡ (concatenated brace earlier count m (map (operand_of env) more)).value context
+  concatenated_value brace earlier count m more n context small own joins =
+      by (is_width (whole_part (count *ℤ pos (steps_joined env m.typed more).kind.width))) refl
+    where
+      by : (b : Bool) → is_width (whole_part (count *ℤ pos (steps_joined env m.typed more).kind.width)) ≡ b
+          → times_number count (steps_joined env m.typed more).kind.width n context ≡ (concatenated brace earlier count m (map (operand_of env) more)).value context
+      by true within =
+          let value : Number = in_context (repeated (whole_part count) (parts_value m (map (operand_of env) more))) context in
+          let fit : m.typed.kind.width + steps_width env more ≤ 64 = parts_fit count m more small within in
+          let together : (alone m).width + steps_width env more ≤ 64 = omega arith in
+          ap (λ b. cond b (in_context (repeated (whole_part count) n) context) (nothing context)) within
+          ∙ ap (λ (k : Number). in_context (repeated (whole_part count) k) context) (joins.value together ∙ parts_value_is env (alone m) more)
+          ∙ ap (λ b. cond b value (nothing context)) (sym within ∙ fits_is count m more small)
+      by false over =
+          let value : Number = in_context (repeated (whole_part count) (parts_value m (map (operand_of env) more))) context in
+          ap (λ b. cond b (in_context (repeated (whole_part count) n) context) (nothing context)) over
+          ∙ ap (λ b. cond b value (nothing context)) (sym over ∙ fits_is count m more small)
+
+  -- the same taken alone, read with its own sign
+  pub concatenated_own : (brace : Token) (earlier : Option WalkFault) (count : ℤ) (m : Meaning) (more : List Step) (n : Number) → IsWidth m.typed.kind.width
+      → (alone m).width ≡ m.typed.kind.width → Joins env (alone m) more more n → (value : Number) (signed : Bool)
+      → value ≡ times_number count (steps_joined env m.typed more).kind.width n (ranged brace.at (earlier before (steps_joined env m.typed more).fault) (count *ℤ pos (steps_joined env m.typed more).kind.width)).kind
+      → signed ≡ (ranged brace.at (earlier before (steps_joined env m.typed more).fault) (count *ℤ pos (steps_joined env m.typed more).kind.width)).kind.signed
+      → reading signed value ≡ own_reading (concatenated brace earlier count m (map (operand_of env) more))
+  concatenated_own brace earlier count m more n small own joins value signed is sign =
+      let whole : Meaning = concatenated brace earlier count m (map (operand_of env) more) in
+      let type : ranged brace.at (earlier before (steps_joined env m.typed more).fault) (count *ℤ pos (steps_joined env m.typed more).kind.width) ≡ whole.typed = concatenated_typed brace earlier count m more small in
+      ap (λ b. reading b value) (sign ∙ ap (λ (t : Typed). t.kind.signed) type)
+      ∙ ap (λ (k : Number). reading whole.typed.kind.signed k)
+      (is ∙ ap (λ (t : Typed). times_number count (steps_joined env m.typed more).kind.width n t.kind) type ∙ concatenated_value brace earlier count m more n whole.typed.kind small own joins)
+
+  -- there the parts are as wide as their types say
+  pub parts_whole : (count : ℤ) (m : Meaning) (more : List Step) (n : Number) → IsWidth m.typed.kind.width → (alone m).width ≡ m.typed.kind.width → Joins env (alone m) more more n
+      → is_width (whole_part (count *ℤ pos (steps_joined env m.typed more).kind.width)) ≡ true → n.width ≡ (steps_joined env m.typed more).kind.width
+  parts_whole count m more n small own joins within =
+      let fit : m.typed.kind.width + steps_width env more ≤ 64 = parts_fit count m more small within in
+      let together : (alone m).width + steps_width env more ≤ 64 = omega arith in
+      let wide : n.width ≡ (alone m).width + steps_width env more = joins.width together in
+      let same : steps_width env more ≡ _ = steps_width_is env more in
+      let counted : (steps_joined env m.typed more).kind.width ≡ min (parts_width m (map (operand_of env) more)) (2 ^ 32 - 1) = width_is m more small in
+      omega arith
 
   -- ---- parts, one after another
 

@@ -1,7 +1,6 @@
 -- What names denote where an expression stands (IEEE 1800-2017 6.20, 11.2.1, 23.9).
 use Rattle.std.specs.Prelude.{ℕ, List, [], Option, Some, None, get_or}
 use Rattle.vs_base.specs.declared.types.ValueType.{ValueType}
-use Rattle.vs_base.specs.Number.{Number}
 use Rattle.scope_table.specs.Scopes.{meaning_here}
 use Rattle.sv_tree.specs.declared.token.Token.{Token}
 use Rattle.sv_expr.specs.declared.scope.Fixed.{Fixed}

@@ -1,13 +1,15 @@
 -- What the walks over lists in an expression keep, one part after another. `proofs/Walks.antt` has them equal to the definitions.
-use Rattle.std.specs.Prelude.{◌≡◌, ◌≤◌, ℕ, suc, ◌+◌, ◌-◌, ◌^◌, min, Bool, true, false, ◌&&◌, ◌||◌, if◌then◌else◌, nat_le, ◌==◌, List, [], ◌∷◌, fold, Option, Some, None}
+use Rattle.std.specs.Prelude.{◌≡◌, ◌≤◌, ℕ, suc, ◌+◌, ◌-◌, ◌^◌, min, Bool, true, false, ◌&&◌, ◌||◌, if◌then◌else◌, nat_le, ◌==◌, List, [], ◌∷◌, fold, Option, Some, None, ℤ, pos, ◌*ℤ◌}
 use Rattle.vs_base.specs.declared.types.ValueType.{ValueType}
+use Rattle.vs_base.specs.declared.origin.Origin.{Origin}
 use Rattle.vs_base.specs.Number.{Number}
-use Rattle.vs_base.specs.Operators.{holds_true, joined}
+use Rattle.vs_base.specs.Operators.{holds_true, joined, repeated}
 use Rattle.sv_tree.specs.declared.symbol.Symbol.{Symbol}
 use Rattle.sv_tree.specs.declared.token.Token.{Token}
 use Rattle.sv_tree.specs.declared.tree.expr.Choice.{Choice}
 use Rattle.sv_tree.specs.declared.tree.expr.Select.{Select}
 use Rattle.sv_tree.specs.declared.tree.expr.Step.{Step}
+use Rattle.sv_expr.specs.declared.fault.WalkFault.{WalkFault}
 use Rattle.sv_expr.specs.declared.typed.Typed.{Typed}
 use Rattle.sv_expr.specs.declared.scope.Fixed.{Fixed}
 use Rattle.sv_expr.specs.declared.scope.Whole.{Whole}
@@ -15,8 +17,9 @@ use Rattle.sv_expr.specs.declared.walk.Left.{Left}
 use Rattle.sv_expr.specs.declared.operator.Class.{Class}
 use Rattle.sv_expr.specs.declared.operator.Class.TheVariants as class
 use Rattle.sv_sem.specs.Types.{wider, in_context}
-use Rattle.sv_expr.specs.Bound.{bit, unsigned, ◌before◌}
+use Rattle.sv_expr.specs.Bound.{bit, unsigned, ◌before◌, is_width, whole_part, ranged}
 use Rattle.sv_expr.specs.Environment.{Environment}
+use Rattle.sv_expr.specs.Literal.{nothing}
 use Rattle.sv_expr.specs.Operator.{class_of, operated, shifted, compared, is_reduction, prefixed}
 use Rattle.sv_expr.specs.Meaning.{Meaning, alone, combined_typed, symbol, meaning_of, select_typed}
 
@@ -57,6 +60,14 @@ next_number _ context mark n m = operated mark context.signed n (m.value context
 -- a value that is as wide as a context already, or is extended to it
 abbrev pub at_width : Number → ValueType → Number
 at_width n t = if n.width == t.width then n else in_context n t
+
+-- the type of so many times the parts
+abbrev pub times_parts : Origin → Option WalkFault → ℤ → Typed → Typed
+times_parts at earlier times parts = ranged at (earlier before parts.fault) (times *ℤ pos parts.kind.width)
+
+-- so many times the bits of a width, where that is a width that a type may have
+abbrev pub times_number : ℤ → ℕ → Number → ValueType → Number
+times_number times width n context = if is_width (whole_part (times *ℤ pos width)) then in_context (repeated (whole_part times) n) context else nothing context
 
 -- the left side of a comparison with its type, and the next comparison
 abbrev pub next_left : Symbol → Left → Meaning → Left

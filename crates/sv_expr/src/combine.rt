@@ -8,9 +8,9 @@ ghost use Rattle.sv_sem.specs.Types.{in_context as number_in_context};
 ghost use Rattle.sv_expr.specs.Bound.{IsWidth, is_width as is_type_width, whole_part, ranged as ranged_type};
 ghost use Rattle.sv_expr.specs.Operator.{combined as combined_kind};
 ghost use Rattle.sv_expr.specs.Meaning.{combined_typed, prefix_kind as prefixed_kind, system_kind, system_value as system_number, part_width};
-ghost use Rattle.sv_expr.specs.Walk.{at_width as number_at_width, joined_typed, with_choice, with_select};
+ghost use Rattle.sv_expr.specs.Walk.{at_width as number_at_width, joined_typed, times_number, times_parts, with_choice, with_select};
 
-use crate::bound::{BIT, first, ranged};
+use crate::bound::{BIT, first, nothing, ranged};
 use crate::fault::WalkFault;
 use crate::operator::{Class, Function, combined, is_reduction};
 use crate::spelled::symbol;
@@ -179,7 +179,7 @@ pub fn times_typed(at: Origin, earlier: Option<WalkFault>, count: &Own, width: u
 }
 
 /// Whether a type may have so many times a width.
-pub fn times_fits(count: &Own, width: u32) -> bool
+fn times_fits(count: &Own, width: u32) -> bool
     requires { count.now.value.width ≤ 64 }
     ensures { result ≡ is_type_width (whole_part (number_reading count.now.signed count.now.value *ℤ pos width)) }
 {
@@ -221,7 +221,7 @@ pub fn joined(high: Bits, low: Bits) -> Bits
 }
 
 /// So many times the bits, in a context; together they are a width that a type may have.
-pub fn repeated(value: Bits, count: &Own, context: ValueType) -> Bits
+fn repeated(value: Bits, count: &Own, context: ValueType) -> Bits
     requires width { is_type_width (whole_part (number_reading count.now.signed count.now.value *ℤ pos value.width)) ≡ true }
     requires narrow { count.now.value.width ≤ 64 }
     requires context { IsWidth context.width }
@@ -231,6 +231,38 @@ pub fn repeated(value: Bits, count: &Own, context: ValueType) -> Bits
         value.repeat(reading(count.value, count.signed) as u32),
         context,
     )
+}
+
+/// So many times the bits of a width, in a context, and 0 where no type may be so wide: there the bits need not be of the width.
+pub fn times_value(count: &Own, width: u32, value: Bits, context: ValueType) -> Bits
+    requires narrow { count.now.value.width ≤ 64 }
+    requires whole { is_type_width (whole_part (number_reading count.now.signed count.now.value *ℤ pos width)) ≡ true → value.width ≡ width }
+    requires context { IsWidth context.width }
+    ensures value { result ≡ times_number (number_reading count.now.signed count.now.value) width value context }
+    ensures width { result.width ≡ context.width }
+{
+    if !times_fits(count, width) {
+        return nothing(context);
+    }
+    repeated(value, count, context)
+}
+
+/// So many times the bits of parts, taken alone.
+pub fn times_own(at: Origin, count: &Own, parts: Typed, value: Bits) -> Own
+    requires narrow { count.now.value.width ≤ 64 }
+    requires whole { is_type_width (whole_part (number_reading count.now.signed count.now.value *ℤ pos parts.kind.width)) ≡ true → value.width ≡ parts.kind.width }
+    ensures value { result.value ≡ times_number (number_reading count.now.signed count.now.value) parts.kind.width value (times_parts at count.now.fault (number_reading count.now.signed count.now.value) parts).kind }
+    ensures signed { result.signed ≡ (times_parts at count.now.fault (number_reading count.now.signed count.now.value) parts).kind.signed }
+    ensures fault { result.fault ≡ (times_parts at count.now.fault (number_reading count.now.signed count.now.value) parts).fault }
+    ensures narrow { result.value.width ≤ 64 }
+{
+    let earlier = first(count.fault, parts.fault);
+    let Typed { kind, fault } = times_typed(at, earlier, count, parts.kind.width);
+    Own {
+        value: times_value(count, parts.kind.width, value, kind),
+        signed: kind.signed,
+        fault,
+    }
 }
 
 /// A value that is as wide as a context already, or is extended to it.

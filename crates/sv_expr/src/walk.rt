@@ -15,8 +15,8 @@ ghost use Rattle.sv_expr.specs.Walk as walks;
 
 use crate::bound::{BIT, fine, first, nothing};
 use crate::combine::{
-    Own, at_width, choose, combine, join, joined, once, part_typed, prefix_kind, repeated, select,
-    system_typed, system_value, times_fits, times_typed, truth,
+    Own, at_width, choose, combine, join, joined, once, part_typed, prefix_kind, select,
+    system_typed, system_value, times_own, times_typed, times_value, truth,
 };
 use crate::fault::WalkFault;
 use crate::literal::{
@@ -252,13 +252,9 @@ pub fn valued(scope: &ScopeView<'_>, expr: &Expr, context: ValueType) -> Bits
         Expr::Name { name, .. } => constant_value(scope, name.name, context),
         Expr::Paren { inner, .. } => valued(scope, inner.get(), context),
         Expr::Concat { first, more, .. } => {
-            let count = once();
             let parts = parts_typed(scope, typed(scope, first.get()), more.as_slice());
-            if !times_fits(&count, parts.kind.width) {
-                return nothing(context);
-            }
             let value = parts_value(scope, alone(scope, first.get()), more.as_slice());
-            repeated(value, &count, context)
+            times_value(&once(), parts.kind.width, value, context)
         }
         Expr::Repeat {
             count,
@@ -268,11 +264,8 @@ pub fn valued(scope: &ScopeView<'_>, expr: &Expr, context: ValueType) -> Bits
         } => {
             let count = own(scope, count.get());
             let parts = parts_typed(scope, typed(scope, first.get()), more.as_slice());
-            if !times_fits(&count, parts.kind.width) {
-                return nothing(context);
-            }
             let value = parts_value(scope, alone(scope, first.get()), more.as_slice());
-            repeated(value, &count, context)
+            times_value(&count, parts.kind.width, value, context)
         }
         Expr::Call { .. } => nothing(context),
         Expr::System { name, arg, .. } => {
@@ -330,18 +323,36 @@ fn alone(scope: &ScopeView<'_>, expr: &Expr) -> Bits
     valued(scope, expr, kind)
 }
 
-/// The value of an operand taken alone, with its sign and its first fault.
+/// The value of an operand taken alone, with its sign and its first fault. The count of a replication is evaluated once
+/// for both the type and the value.
 #[cycle(walk)]
 pub fn own(scope: &ScopeView<'_>, expr: &Expr) -> Own
     ensures reading { reading result.signed result.value ≡ own_reading (meaning_of (environment scope.now) expr.now) }
     ensures fault { result.fault ≡ (meaning_of (environment scope.now) expr.now).typed.fault }
     ensures narrow { result.value.width ≤ 64 }
 {
-    let Typed { kind, fault } = typed(scope, expr);
-    Own {
-        value: valued(scope, expr, kind),
-        signed: kind.signed,
-        fault,
+    match expr {
+        Expr::Paren { inner, .. } => own(scope, inner.get()),
+        Expr::Repeat {
+            open,
+            count,
+            first,
+            more,
+            ..
+        } => {
+            let count = own(scope, count.get());
+            let parts = parts_typed(scope, typed(scope, first.get()), more.as_slice());
+            let value = parts_value(scope, alone(scope, first.get()), more.as_slice());
+            times_own(open.at, &count, parts, value)
+        }
+        _ => {
+            let Typed { kind, fault } = typed(scope, expr);
+            Own {
+                value: valued(scope, expr, kind),
+                signed: kind.signed,
+                fault,
+            }
+        }
     }
 }
 

@@ -1,4 +1,4 @@
-use Rattle.std.proofs.Common.{◌≡◌, ◌≤◌, ◌<◌, ℕ, ◌+◌, arith, List, length, None, refl, sym, ap, ◌∙◌, ℤ, pos}
+use Rattle.std.proofs.Common.{◌≡◌, ◌≤◌, ◌<◌, ℕ, arith, List, length, None, refl, sym, ap, ◌∙◌, pos}
 use Rattle.vs_base.specs.Number.{Number}
 use Rattle.sv_tree.specs.declared.symbol.Symbol.{Symbol}
 use Rattle.sv_tree.specs.declared.token.Token.{Token}
@@ -6,10 +6,10 @@ use Rattle.sv_expr.specs.declared.typed.Typed.{Typed}
 use Rattle.sv_expr.specs.Environment.{Environment, environment}
 use Rattle.sv_expr.specs.Meaning.{Meaning, own_reading, meaning_of, symbol}
 use Rattle.sv_expr.specs.MeaningLaws.{args-Empty, args-Listed, expr-Decimal, expr-Based, expr-Sized, expr-Fill, expr-Name, expr-Paren, expr-Concat, expr-Repeat, expr-Call, expr-System, expr-Prefix, expr-Level, expr-Choose, select-Bit, select-Part}
-use Rattle.sv_expr.specs.Walk.{plain_count, steps_width}
+use Rattle.sv_expr.specs.Walk.{plain_count}
 use Rattle.sv_expr.proofs.Walks.{args_fault_is, level_typed, level_in_context, level_comparison, level_logic, choices_kind, choices_fault, choice_found, choice_last, named_is}
 use Rattle.sv_expr.proofs.Prefixes.{plain_is, split_is, plain_width, all_width}
-use Rattle.sv_expr.proofs.Exprs.{typed_of, typed_by, value_by, args_by, select_by, concatenated_typed, concatenated_none, concatenated_some, parts_fit, count_fits, joins_next, joins_all}
+use Rattle.sv_expr.proofs.Exprs.{typed_of, typed_by, value_by, own_by, fault_by, args_by, select_by, concatenated_typed, concatenated_value, concatenated_own, parts_whole, joins_next, joins_all}
 use Rattle.sv_expr.proofs.walk.+walk.Goals as goal
 
 below : {a b : ℕ} → a ≤ b → (a ≡ b → ⊥) → a < b
@@ -136,59 +136,57 @@ typed-returns-in-Choose-clause-typed t c =
 
 -- ---- values
 
-pub valued-returns-then-not-times_fits-clause-value : goal.valued-returns-then-not-times_fits-clause-value
-valued-returns-then-not-times_fits-clause-value t c =
+pub valued-times_value-requires-clause-whole : goal.valued-times_value-requires-clause-whole
+valued-times_value-requires-clause-whole t c = λ within.
     let env : Environment = environment c.args.scope.now in
     let first = rw c.get-in-Concat.ensures at c.typed.ensures.typed in
     let parts = rw (first, c.as_slice.ensures) at c.parts_typed-parts.ensures in
     let small = rw first at c.typed.ensures.width in
-    let test = rw (c.once-count.ensures.reading, parts) at c.times_fits.ensures in
-    value_by env c.in-Concat.is (expr-Concat env _ _ _ _)
-    (c.nothing.ensures ∙ concatenated_none env c.in-Concat.open None (pos 1) (meaning_of env c.in-Concat.first) c.in-Concat.more c.args.context small (sym test ∙ c.if-not-times_fits.true))
-
-pub valued-returns-then-not-times_fits-2-clause-value : goal.valued-returns-then-not-times_fits-2-clause-value
-valued-returns-then-not-times_fits-2-clause-value t c =
-    let env : Environment = environment c.args.scope.now in
-    let count : ℤ = own_reading (meaning_of env c.in-Repeat.count) in
-    let reads = rw c.get-in-Repeat.ensures at c.own-count.ensures.reading in
-    let first = rw c.get-in-Repeat-2.ensures at c.typed-in-Repeat.ensures.typed in
-    let parts = rw (first, c.as_slice-in-Repeat.ensures) at c.parts_typed-parts-in-Repeat.ensures in
-    let small = rw first at c.typed-in-Repeat.ensures.width in
-    let test = rw (reads, parts) at c.times_fits-in-Repeat.ensures in
-    value_by env c.in-Repeat.is (expr-Repeat env _ _ _ _ _ _ _)
-    (c.nothing-then-not-times_fits-2.ensures ∙ concatenated_none env c.in-Repeat.open (meaning_of env c.in-Repeat.count).typed.fault count (meaning_of env c.in-Repeat.first) c.in-Repeat.more c.args.context small (sym test ∙ c.if-not-times_fits-2.true))
-
-pub valued-repeated-requires-clause-width : goal.valued-repeated-requires-clause-width
-valued-repeated-requires-clause-width t c =
-    let env : Environment = environment c.args.scope.now in
-    let first = rw c.get-in-Concat.ensures at c.typed.ensures.typed in
-    let parts = rw (first, c.as_slice.ensures) at c.parts_typed-parts.ensures in
-    let small = rw first at c.typed.ensures.width in
-    let test = rw (c.once-count.ensures.reading, parts) at c.times_fits.ensures in
-    let within = sym test ∙ c.if-not-times_fits.false in
-    let fit = parts_fit env (pos 1) (meaning_of env c.in-Concat.first) c.in-Concat.more small within in
     let start = rw c.get-in-Concat-2.ensures at c.alone.ensures.value in
-    let width = rw c.get-in-Concat-2.ensures at c.alone.ensures.width in
-    let joins = rw c.as_slice-in-Concat.ensures at c.parts_value-value.ensures in
-    let together : c.alone.result.width + steps_width env c.in-Concat.more ≤ 64 = rw width fit in
-    rw c.once-count.ensures.reading (count_fits env (pos 1) (meaning_of env c.in-Concat.first) c.in-Concat.more c.parts_value-value.result.width small within (rw width at (joins.width together)))
+    let width = rw start at (rw c.get-in-Concat-2.ensures at c.alone.ensures.width) in
+    let joins = rw (start, c.as_slice-in-Concat.ensures) at c.parts_value-value.ensures in
+    parts_whole env (pos 1) (meaning_of env c.in-Concat.first) c.in-Concat.more c.parts_value-value.result small width joins (rw (c.once.ensures.reading, parts) at within)
+    ∙ sym (ap (λ (t : Typed). t.kind.width) parts)
 
-pub valued-repeated-requires-in-Repeat-clause-width : goal.valued-repeated-requires-in-Repeat-clause-width
-valued-repeated-requires-in-Repeat-clause-width t c =
+pub valued-returns-in-Concat-clause-value : goal.valued-returns-in-Concat-clause-value
+valued-returns-in-Concat-clause-value t c =
     let env : Environment = environment c.args.scope.now in
-    let count : ℤ = own_reading (meaning_of env c.in-Repeat.count) in
+    let first = rw c.get-in-Concat.ensures at c.typed.ensures.typed in
+    let parts = rw (first, c.as_slice.ensures) at c.parts_typed-parts.ensures in
+    let small = rw first at c.typed.ensures.width in
+    let start = rw c.get-in-Concat-2.ensures at c.alone.ensures.value in
+    let width = rw start at (rw c.get-in-Concat-2.ensures at c.alone.ensures.width) in
+    let joins = rw (start, c.as_slice-in-Concat.ensures) at c.parts_value-value.ensures in
+    value_by env c.in-Concat.is (expr-Concat env _ _ _ _)
+    (rw (c.once.ensures.reading, parts) at c.times_value.ensures.value
+    ∙ concatenated_value env c.in-Concat.open None (pos 1) (meaning_of env c.in-Concat.first) c.in-Concat.more c.parts_value-value.result c.args.context small width joins)
+
+pub valued-times_value-requires-in-Repeat-clause-whole : goal.valued-times_value-requires-in-Repeat-clause-whole
+valued-times_value-requires-in-Repeat-clause-whole t c = λ within.
+    let env : Environment = environment c.args.scope.now in
     let reads = rw c.get-in-Repeat.ensures at c.own-count.ensures.reading in
     let first = rw c.get-in-Repeat-2.ensures at c.typed-in-Repeat.ensures.typed in
     let parts = rw (first, c.as_slice-in-Repeat.ensures) at c.parts_typed-parts-in-Repeat.ensures in
     let small = rw first at c.typed-in-Repeat.ensures.width in
-    let test = rw (reads, parts) at c.times_fits-in-Repeat.ensures in
-    let within = sym test ∙ c.if-not-times_fits-2.false in
-    let fit = parts_fit env count (meaning_of env c.in-Repeat.first) c.in-Repeat.more small within in
     let start = rw c.get-in-Repeat-3.ensures at c.alone-in-Repeat.ensures.value in
-    let width = rw c.get-in-Repeat-3.ensures at c.alone-in-Repeat.ensures.width in
-    let joins = rw c.as_slice-in-Repeat-2.ensures at c.parts_value-value-in-Repeat.ensures in
-    let together : c.alone-in-Repeat.result.width + steps_width env c.in-Repeat.more ≤ 64 = rw width fit in
-    rw reads (count_fits env count (meaning_of env c.in-Repeat.first) c.in-Repeat.more c.parts_value-value-in-Repeat.result.width small within (rw width at (joins.width together)))
+    let width = rw start at (rw c.get-in-Repeat-3.ensures at c.alone-in-Repeat.ensures.width) in
+    let joins = rw (start, c.as_slice-in-Repeat-2.ensures) at c.parts_value-value-in-Repeat.ensures in
+    parts_whole env (own_reading (meaning_of env c.in-Repeat.count)) (meaning_of env c.in-Repeat.first) c.in-Repeat.more c.parts_value-value-in-Repeat.result small width joins (rw (reads, parts) at within)
+    ∙ sym (ap (λ (t : Typed). t.kind.width) parts)
+
+pub valued-returns-in-Repeat-clause-value : goal.valued-returns-in-Repeat-clause-value
+valued-returns-in-Repeat-clause-value t c =
+    let env : Environment = environment c.args.scope.now in
+    let reads = rw c.get-in-Repeat.ensures at c.own-count.ensures.reading in
+    let first = rw c.get-in-Repeat-2.ensures at c.typed-in-Repeat.ensures.typed in
+    let parts = rw (first, c.as_slice-in-Repeat.ensures) at c.parts_typed-parts-in-Repeat.ensures in
+    let small = rw first at c.typed-in-Repeat.ensures.width in
+    let start = rw c.get-in-Repeat-3.ensures at c.alone-in-Repeat.ensures.value in
+    let width = rw start at (rw c.get-in-Repeat-3.ensures at c.alone-in-Repeat.ensures.width) in
+    let joins = rw (start, c.as_slice-in-Repeat-2.ensures) at c.parts_value-value-in-Repeat.ensures in
+    value_by env c.in-Repeat.is (expr-Repeat env _ _ _ _ _ _ _)
+    (rw (reads, parts) at c.times_value-in-Repeat.ensures.value
+    ∙ concatenated_value env c.in-Repeat.open (meaning_of env c.in-Repeat.count).typed.fault (own_reading (meaning_of env c.in-Repeat.count)) (meaning_of env c.in-Repeat.first) c.in-Repeat.more c.parts_value-value-in-Repeat.result c.args.context small width joins)
 
 pub valued-returns-then-plain-marks-clause-value : goal.valued-returns-then-plain-marks-clause-value
 valued-returns-then-plain-marks-clause-value t c =
@@ -261,47 +259,10 @@ valued-returns-in-Paren-clause-value t c =
     let env : Environment = environment c.args.scope.now in
     value_by env c.in-Paren.is (expr-Paren env _ _ _) (rw c.get.ensures at c.valued.ensures.value)
 
-pub valued-returns-else-not-times_fits-clause-value : goal.valued-returns-else-not-times_fits-clause-value
-valued-returns-else-not-times_fits-clause-value t c =
-    let env : Environment = environment c.args.scope.now in
-    let first = rw c.get-in-Concat.ensures at c.typed.ensures.typed in
-    let parts = rw (first, c.as_slice.ensures) at c.parts_typed-parts.ensures in
-    let small = rw first at c.typed.ensures.width in
-    let test = rw (c.once-count.ensures.reading, parts) at c.times_fits.ensures in
-    let within = sym test ∙ c.if-not-times_fits.false in
-    let fit = parts_fit env (pos 1) (meaning_of env c.in-Concat.first) c.in-Concat.more small within in
-    let start = rw c.get-in-Concat-2.ensures at c.alone.ensures.value in
-    let width = rw c.get-in-Concat-2.ensures at c.alone.ensures.width in
-    let joins = rw c.as_slice-in-Concat.ensures at c.parts_value-value.ensures in
-    let together : c.alone.result.width + steps_width env c.in-Concat.more ≤ 64 = rw width fit in
-    let value = rw start at (joins.value together) in
-    value_by env c.in-Concat.is (expr-Concat env _ _ _ _)
-    (rw (c.once-count.ensures.reading, value) at c.repeated.ensures
-    ∙ concatenated_some env c.in-Concat.open None (pos 1) (meaning_of env c.in-Concat.first) c.in-Concat.more c.args.context small within)
-
-pub valued-returns-else-not-times_fits-2-clause-value : goal.valued-returns-else-not-times_fits-2-clause-value
-valued-returns-else-not-times_fits-2-clause-value t c =
-    let env : Environment = environment c.args.scope.now in
-    let count : ℤ = own_reading (meaning_of env c.in-Repeat.count) in
-    let reads = rw c.get-in-Repeat.ensures at c.own-count.ensures.reading in
-    let first = rw c.get-in-Repeat-2.ensures at c.typed-in-Repeat.ensures.typed in
-    let parts = rw (first, c.as_slice-in-Repeat.ensures) at c.parts_typed-parts-in-Repeat.ensures in
-    let small = rw first at c.typed-in-Repeat.ensures.width in
-    let test = rw (reads, parts) at c.times_fits-in-Repeat.ensures in
-    let within = sym test ∙ c.if-not-times_fits-2.false in
-    let fit = parts_fit env count (meaning_of env c.in-Repeat.first) c.in-Repeat.more small within in
-    let start = rw c.get-in-Repeat-3.ensures at c.alone-in-Repeat.ensures.value in
-    let width = rw c.get-in-Repeat-3.ensures at c.alone-in-Repeat.ensures.width in
-    let joins = rw c.as_slice-in-Repeat-2.ensures at c.parts_value-value-in-Repeat.ensures in
-    let together : c.alone-in-Repeat.result.width + steps_width env c.in-Repeat.more ≤ 64 = rw width fit in
-    let value = rw start at (joins.value together) in
-    value_by env c.in-Repeat.is (expr-Repeat env _ _ _ _ _ _ _)
-    (rw (reads, value) at c.repeated-in-Repeat.ensures ∙ concatenated_some env c.in-Repeat.open (meaning_of env c.in-Repeat.count).typed.fault count (meaning_of env c.in-Repeat.first) c.in-Repeat.more c.args.context small within)
-
 pub valued-returns-in-Call-clause-value : goal.valued-returns-in-Call-clause-value
 valued-returns-in-Call-clause-value t c =
     let env : Environment = environment c.args.scope.now in
-    value_by env c.in-Call.is (expr-Call env _ _ _ _) c.nothing-in-Call.ensures
+    value_by env c.in-Call.is (expr-Call env _ _ _ _) c.nothing.ensures
 
 pub valued-returns-in-System-clause-value : goal.valued-returns-in-System-clause-value
 valued-returns-in-System-clause-value t c =
@@ -355,6 +316,60 @@ valued-returns-in-None-clause-value t c =
     value_by env c.in-Choose.is (expr-Choose env _ _)
     (rw c.get-in-None.ensures at c.valued-in-None.ensures.value
     ∙ choice_last env c.in-Choose.choices (meaning_of env c.in-Choose.last) c.args.context (rw c.as_slice-in-Choose.ensures at c.in-None.ensures.value))
+
+-- ---- values alone, with their sign and fault
+
+pub own-returns-in-Paren-clause-reading : goal.own-returns-in-Paren-clause-reading
+own-returns-in-Paren-clause-reading t c =
+    let env : Environment = environment c.args.scope.now in
+    own_by env c.in-Paren.is (expr-Paren env _ _ _) (rw c.get.ensures at c.own.ensures.reading)
+
+pub own-returns-in-Paren-clause-fault : goal.own-returns-in-Paren-clause-fault
+own-returns-in-Paren-clause-fault t c =
+    let env : Environment = environment c.args.scope.now in
+    fault_by env c.in-Paren.is (expr-Paren env _ _ _) (rw c.get.ensures at c.own.ensures.fault)
+
+pub own-times_own-requires-clause-whole : goal.own-times_own-requires-clause-whole
+own-times_own-requires-clause-whole t c = λ within.
+    let env : Environment = environment c.args.scope.now in
+    let reads = rw c.get-in-Repeat.ensures at c.own-count.ensures.reading in
+    let first = rw c.get-in-Repeat-2.ensures at c.typed.ensures.typed in
+    let parts = rw (first, c.as_slice.ensures) at c.parts_typed-parts.ensures in
+    let small = rw first at c.typed.ensures.width in
+    let start = rw c.get-in-Repeat-3.ensures at c.alone.ensures.value in
+    let width = rw start at (rw c.get-in-Repeat-3.ensures at c.alone.ensures.width) in
+    let joins = rw (start, c.as_slice-in-Repeat.ensures) at c.parts_value-value.ensures in
+    parts_whole env (own_reading (meaning_of env c.in-Repeat.count)) (meaning_of env c.in-Repeat.first) c.in-Repeat.more c.parts_value-value.result small width joins (rw (reads, parts) at within)
+    ∙ sym (ap (λ (t : Typed). t.kind.width) parts)
+
+pub own-returns-in-Repeat-clause-reading : goal.own-returns-in-Repeat-clause-reading
+own-returns-in-Repeat-clause-reading t c =
+    let env : Environment = environment c.args.scope.now in
+    let reads = rw c.get-in-Repeat.ensures at c.own-count.ensures.reading in
+    let fault = rw c.get-in-Repeat.ensures at c.own-count.ensures.fault in
+    let first = rw c.get-in-Repeat-2.ensures at c.typed.ensures.typed in
+    let parts = rw (first, c.as_slice.ensures) at c.parts_typed-parts.ensures in
+    let small = rw first at c.typed.ensures.width in
+    let start = rw c.get-in-Repeat-3.ensures at c.alone.ensures.value in
+    let width = rw start at (rw c.get-in-Repeat-3.ensures at c.alone.ensures.width) in
+    let joins = rw (start, c.as_slice-in-Repeat.ensures) at c.parts_value-value.ensures in
+    let value = rw (fault, reads, parts) at c.times_own.ensures.value in
+    let signed = rw (fault, reads, parts) at c.times_own.ensures.signed in
+    own_by env c.in-Repeat.is (expr-Repeat env _ _ _ _ _ _ _)
+    (concatenated_own env c.in-Repeat.open (meaning_of env c.in-Repeat.count).typed.fault (own_reading (meaning_of env c.in-Repeat.count)) (meaning_of env c.in-Repeat.first) c.in-Repeat.more c.parts_value-value.result small width joins
+    c.times_own.result.value c.times_own.result.signed value signed)
+
+pub own-returns-in-Repeat-clause-fault : goal.own-returns-in-Repeat-clause-fault
+own-returns-in-Repeat-clause-fault t c =
+    let env : Environment = environment c.args.scope.now in
+    let reads = rw c.get-in-Repeat.ensures at c.own-count.ensures.reading in
+    let fault = rw c.get-in-Repeat.ensures at c.own-count.ensures.fault in
+    let first = rw c.get-in-Repeat-2.ensures at c.typed.ensures.typed in
+    let parts = rw (first, c.as_slice.ensures) at c.parts_typed-parts.ensures in
+    let small = rw first at c.typed.ensures.width in
+    fault_by env c.in-Repeat.is (expr-Repeat env _ _ _ _ _ _ _)
+    (rw (fault, reads, parts) at c.times_own.ensures.fault
+    ∙ ap (λ (t : Typed). t.fault) (concatenated_typed env c.in-Repeat.open (meaning_of env c.in-Repeat.count).typed.fault (own_reading (meaning_of env c.in-Repeat.count)) (meaning_of env c.in-Repeat.first) c.in-Repeat.more small))
 
 pub parts_value-returns : goal.parts_value-returns
 parts_value-returns t c = joins_all (environment c.args.scope.now) c.args.first c.args.more.now c.loop-step.step-index c.loop-step.so_far c.loop-step-test.false c.loop-step.invariant
