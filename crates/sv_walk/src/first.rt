@@ -1,13 +1,26 @@
+ghost use Rattle.std.specs.Prelude.{◌≡◌, [], map, MatchOption};
+ghost use Rattle.sv_tree.specs.TreeRead.{all_of};
+ghost use Rattle.sv_tree.specs.TreeExpr.{expr_read, choice_read};
+ghost use Rattle.sv_walk.specs.First.{BeginsWith};
+
 use sv_tree::{Choice, Expr, Token};
 
 /// The first token of an expression.
 #[cycle(first)]
-pub fn first_token(expr: &Expr) -> Token {
+pub fn first_token(expr: &Expr) -> Token
+    ensures { BeginsWith result (expr_read expr.now).text }
+{
     match expr {
-        Expr::Decimal(token) | Expr::Based(token) | Expr::Fill(token) => *token,
+        Expr::Decimal(token) => *token,
+        Expr::Based(token) => *token,
         Expr::Sized { size, .. } => *size,
-        Expr::Name { name, .. } | Expr::Call { name, .. } | Expr::System { name, .. } => *name,
-        Expr::Paren { open, .. } | Expr::Concat { open, .. } | Expr::Repeat { open, .. } => *open,
+        Expr::Fill(token) => *token,
+        Expr::Name { name, .. } => *name,
+        Expr::Paren { open, .. } => *open,
+        Expr::Concat { open, .. } => *open,
+        Expr::Repeat { open, .. } => *open,
+        Expr::Call { name, .. } => *name,
+        Expr::System { name, .. } => *name,
         Expr::Prefix { operators, operand } => match operators.as_slice().first() {
             Some(operator) => *operator,
             None => first_token(operand.get()),
@@ -22,7 +35,9 @@ pub fn first_token(expr: &Expr) -> Token {
 
 /// The first token of a chain of tests.
 #[cycle(first)]
-fn first_of(choices: &[Choice]) -> Option<Token> {
+fn first_of(choices: &[Choice]) -> Option<Token>
+    ensures { MatchOption result (choices.now ≡ []) (λ t. BeginsWith t (all_of (map choice_read choices.now))) }
+{
     match choices {
         [] => None,
         [choice, ..] => Some(first_token(&choice.test)),

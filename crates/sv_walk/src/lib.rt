@@ -4,6 +4,10 @@
 //! In come a part of the syntax tree, the table of names, and a [`Visit`], which is told what the walk meets, in token
 //! order. Out comes nothing but what the visitor has kept.
 //!
+//! Each walk ensures that its visitor was told exactly the events of the part, each once and in token order: `specs/Events.antt`
+//! has the list for what is read and `specs/Targets.antt` that for what is written. What one event does to a visitor is
+//! its ghost member `told`.
+//!
 //! # Where a constant is needed
 //!
 //! The caller says whether the whole has to be constant. Within it these have to be: the count of a replication
