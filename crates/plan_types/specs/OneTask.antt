@@ -8,6 +8,7 @@ abbrev pub groups_of : ℕ → List (List ℕ)
 groups_of zero = []
 groups_of (suc n) = range_with_len 0 (suc n) ∷ []
 
+-- the group's task, which starts at 0
 abbrev pub first_tasks : ℕ → List Task
 first_tasks zero = []
 first_tasks (suc n) = record { thread = 0; start = 0 } ∷ []

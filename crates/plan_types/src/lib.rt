@@ -37,9 +37,9 @@
 //!
 //! # What is proved
 //!
-//! That [`ValidPlan::one_task`] makes a valid plan with these nodes, this graph, one group and one list, and that [`cost_of`] gives
-//! the cost of `specs/Costs.antt`. The trait's clauses are what each runner has to show: an eval is `evaluated`, or there was no
-//! memory left.
+//! That [`ValidPlan::one_task`] makes a valid plan with these nodes and this graph, and exactly the group, the task, the list and
+//! the order of `specs/OneTask.antt`, and that [`cost_of`] gives the cost of `specs/Costs.antt`. The trait's clauses are what each
+//! runner has to show: an eval is `evaluated`, or there was no memory left.
 //!
 //! # Cost
 //!

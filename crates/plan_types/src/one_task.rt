@@ -11,15 +11,17 @@ use sqlite_items::Items;
 use std::alloc::Global;
 
 impl ValidPlan {
-    /// The plan that runs all nodes as one task of thread 0, in their serial order; where there is no node there is no
-    /// task. `NoMemory`: there was none left.
+    /// The plan that runs all nodes as one task of thread 0, which starts at 0, in their serial order; where there is no node
+    /// there is no task. `NoMemory`: there was none left.
     pub fn one_task(alloc: Global, nodes: Items<Node>, graph: Graph) -> Result<ValidPlan, NoMemory>
         requires costs { length graph.costs ≡ length nodes }
         requires rising { list_all rises graph.edges ≡ true }
         ensures nodes { IfOk result (λ plan. plan.nodes ≡ nodes) }
         ensures graph { IfOk result (λ plan. plan.graph ≡ graph) }
         ensures groups { IfOk result (λ plan. plan.groups ≡ groups_of (length nodes)) }
+        ensures tasks { IfOk result (λ plan. plan.tasks ≡ first_tasks (length nodes)) }
         ensures threads { IfOk result (λ plan. plan.threads ≡ lists_of (length nodes)) }
+        ensures order { IfOk result (λ plan. plan.order ≡ numbers_of (length nodes)) }
     {
         let groups = groups(alloc, graph.nodes())?;
         let placed = placed(alloc, graph.nodes())?;

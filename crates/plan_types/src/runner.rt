@@ -1,5 +1,5 @@
 //! What runs a model.
-ghost use Rattle.std.specs.Prelude.{◌≡◌, ◌<◌, ◌≤◌, length, slice_index, IfOk};
+ghost use Rattle.std.specs.Prelude.{◌≡◌, ◌<◌, length, slice_index, IfOk};
 ghost use Rattle.plan_types.specs.declared.built.Built.{Built};
 ghost use Rattle.plan_types.specs.Machine.{Machine, evaluated, kept_of, IsInput};
 
