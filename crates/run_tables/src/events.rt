@@ -1,5 +1,5 @@
 //! The words of events.
-ghost use Rattle.std.specs.Prelude.{◌≡◌, ◌<◌, ◌&&◌, not, nat_lt, ℕ, length, slice_index, IfOk};
+ghost use Rattle.std.specs.Prelude.{◌≡◌, ◌<◌, ℕ, length, slice_index, IfOk};
 ghost use Rattle.plan_types.specs.Machine.{event_word, is_piece as holds_bits};
 ghost use Rattle.run_tables.specs.Tables.{noted};
 
@@ -11,6 +11,7 @@ use std::alloc::Global;
 
 /// The first word with bits of each variable, 0 where there is none. `NoMemory`: there was none left.
 pub fn event_words(alloc: Global, design: &Design, layout: &Layout) -> Result<Vec<usize>, NoMemory>
+    ensures many { IfOk result (λ out. length out.items ≡ length design.now.vars) }
     ensures each { IfOk result (λ out. (v : ℕ) → v < length design.now.vars → slice_index out.items v ≡ event_word layout.now.words.items v) }
 {
     let mut table = filled(alloc, 0usize, design.vars.len())?;

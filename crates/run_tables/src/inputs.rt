@@ -1,5 +1,5 @@
 //! The words of inputs.
-ghost use Rattle.std.specs.Prelude.{◌≡◌, ◌++◌, ◌<◌, ◌≤◌, ℕ, length, Option, None, slice_index_or, true, IfOk, OnOk};
+ghost use Rattle.std.specs.Prelude.{◌≡◌, ◌++◌, ℕ, None, slice_index_or, true, IfOk, OnOk};
 ghost use Rattle.std.specs.List.{list_all};
 ghost use Rattle.rtl_ir.specs.WithinDesign.{port_fits};
 ghost use Rattle.plan_types.specs.Machine.{input_vars, input_of, input_word, input_words as words_of_inputs};
