@@ -1,5 +1,9 @@
 //! What the walk has laid down, against the limits.
 
+ghost use Rattle.std.specs.Prelude.{◌≡◌, ◌+◌, ◌-◌, ◌^◌, min, IfOk};
+ghost use Rattle.elab_parts.specs.Stops.{stop_in};
+ghost use Rattle.elab_parts.specs.Counting as counting;
+
 use crate::stop::{Counted, Stop};
 use sv_tree::{Args, Token};
 use sv_walk::Visit;
@@ -24,12 +28,16 @@ pub struct Tally {
 
 impl Tally {
     /// A construct that counts as so many terms besides its expressions.
-    pub fn of(terms: usize) -> Tally {
+    pub fn of(terms: usize) -> Tally
+        ensures { result ≡ counting.tally terms 0 }
+    {
         Tally { terms, calls: 0 }
     }
 
     /// One call more.
-    pub fn add_call(&mut self) {
+    pub fn add_call(&mut self)
+        ensures { self.new ≡ counting.one_call_more self.old }
+    {
         self.calls = self.calls.saturating_add(1);
     }
 }
@@ -46,7 +54,9 @@ impl Visit for Tally {
 
 impl Counts {
     /// Nothing is laid down yet.
-    pub fn none() -> Counts {
+    pub fn none() -> Counts
+        ensures { result ≡ counting.nothing_laid }
+    {
         Counts {
             instances: 0,
             processes: 0,
@@ -56,27 +66,41 @@ impl Counts {
         }
     }
 
-    /// Counts an instance.
-    pub fn instance(&mut self) -> Result<(), Stop> {
+    /// Counts an instance. The fault is that there are more than [`limits::INSTANCES`]; the counts are then as they were.
+    pub fn instance(&mut self) -> Result<(), Stop>
+        ensures fault { stop_in result ≡ counting.instance_fault self.old }
+        ensures counts { self.new ≡ counting.with_instance self.old }
+    {
         self.instances = within(self.instances, 1, limits::INSTANCES, Counted::Instances)?;
         Ok(())
     }
 
-    /// Counts a process.
-    pub fn process(&mut self) -> Result<(), Stop> {
+    /// Counts a process. The fault is that there are more than [`limits::PROCESSES`]; the counts are then as they were.
+    pub fn process(&mut self) -> Result<(), Stop>
+        ensures fault { stop_in result ≡ counting.process_fault self.old }
+        ensures counts { self.new ≡ counting.with_process self.old }
+    {
         self.processes = within(self.processes, 1, limits::PROCESSES, Counted::Processes)?;
         Ok(())
     }
 
-    /// Counts the terms and then the calls of an item or a statement.
-    pub fn lay(&mut self, tally: Tally) -> Result<(), Stop> {
+    /// Counts the terms and then the calls of an item or a statement. The fault is that there are more than
+    /// [`limits::TERMS`], or else more than [`limits::CALLS`]; what is too many is not counted.
+    pub fn lay(&mut self, tally: Tally) -> Result<(), Stop>
+        ensures fault { stop_in result ≡ counting.tally_fault self.old tally }
+        ensures counts { self.new ≡ counting.with_tally self.old tally }
+    {
         self.terms = within(self.terms, tally.terms, limits::TERMS, Counted::Terms)?;
         self.calls = within(self.calls, tally.calls, limits::CALLS, Counted::Calls)?;
         Ok(())
     }
 
-    /// Counts a turn of a loop whose `for` stands at this place.
-    pub fn turn(&mut self, at: Origin) -> Result<(), Stop> {
+    /// Counts a turn of a loop whose `for` stands at this place. The fault is that all loops have more than
+    /// [`limits::LOOP_TURNS`]; the counts are then as they were.
+    pub fn turn(&mut self, at: Origin) -> Result<(), Stop>
+        ensures fault { stop_in result ≡ counting.turn_fault self.old at }
+        ensures counts { self.new ≡ counting.with_turn self.old }
+    {
         if self.turns >= limits::LOOP_TURNS {
             return Err(Stop::LoopTurns(at));
         }
@@ -86,7 +110,10 @@ impl Counts {
 }
 
 /// So many more, or the fault where they are past the limit.
-fn within(count: usize, more: usize, limit: usize, what: Counted) -> Result<usize, Stop> {
+fn within(count: usize, more: usize, limit: usize, what: Counted) -> Result<usize, Stop>
+    ensures fault { stop_in result ≡ counting.past limit (min (count + more) (2 ^ 64 - 1)) what }
+    ensures sum { IfOk result (λ sum. sum ≡ min (count + more) (2 ^ 64 - 1)) }
+{
     let sum = count.saturating_add(more);
     if sum > limit {
         return Err(Stop::TooMany(what));

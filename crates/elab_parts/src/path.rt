@@ -1,18 +1,28 @@
 //! The paths of scopes.
 
+ghost use Rattle.std.specs.Prelude.{◌≡◌, ◌++◌, IfOk, IfErr, OnOk, codes};
+ghost use Rattle.vs_base.specs.Number.{signed_reading};
+ghost use Rattle.elab_parts.specs.Paths.{inner_path, turn_name, block_number};
+
 use crate::stop::Stop;
 use itoa::Buffer;
 use std::alloc::Global;
 use sv_expr::Fixed;
 use vs_base::Text;
 
-/// A path of one name.
-pub fn root(alloc: Global, name: &[u8]) -> Result<Text, Stop> {
+/// A path of one name. There is no fault but want of memory.
+pub fn root(alloc: Global, name: &[u8]) -> Result<Text, Stop>
+    ensures path { IfOk result (λ path. path ≡ name.now) }
+    ensures memory { IfErr result (λ stop. stop ≡ Stop.NoMemory) }
+{
     Ok(Text::new(bytes_of(alloc, name)?))
 }
 
 /// The bytes of a text.
-fn bytes_of(alloc: Global, text: &[u8]) -> Result<Vec<u8>, Stop> {
+fn bytes_of(alloc: Global, text: &[u8]) -> Result<Vec<u8>, Stop>
+    ensures bytes { IfOk result (λ bytes. bytes.items ≡ text.now) }
+    ensures memory { IfErr result (λ stop. stop ≡ Stop.NoMemory) }
+{
     match Vec::from_slice(alloc, text) {
         Ok(bytes) => Ok(bytes),
         Err(_) => Err(Stop::NoMemory),
@@ -20,23 +30,34 @@ fn bytes_of(alloc: Global, text: &[u8]) -> Result<Vec<u8>, Stop> {
 }
 
 /// Adds bytes at the end.
-fn put(bytes: &mut Vec<u8>, text: &[u8]) -> Result<(), Stop> {
+fn put(bytes: &mut Vec<u8>, text: &[u8]) -> Result<(), Stop>
+    ensures added { OnOk result (bytes.new.items ≡ bytes.old.items ++ text.now) }
+    ensures memory { IfErr result (λ stop. stop ≡ Stop.NoMemory) }
+{
     match bytes.extend_from_slice(text) {
         Ok(()) => Ok(()),
         Err(_) => Err(Stop::NoMemory),
     }
 }
 
-/// The path of a scope in another: a dot and its segment after the other's path.
-pub fn inner(alloc: Global, outer: &[u8], segment: &[u8]) -> Result<Text, Stop> {
+/// The path of a scope in another: a dot and its segment after the other's path. There is no fault but want of
+/// memory.
+pub fn inner(alloc: Global, outer: &[u8], segment: &[u8]) -> Result<Text, Stop>
+    ensures path { IfOk result (λ path. path ≡ inner_path outer.now segment.now) }
+    ensures memory { IfErr result (λ stop. stop ≡ Stop.NoMemory) }
+{
     let mut bytes = bytes_of(alloc, outer)?;
     put(&mut bytes, b".")?;
     put(&mut bytes, segment)?;
     Ok(Text::new(bytes))
 }
 
-/// The segment of a turn: the block's name and the value of the genvar, `NAME[i]`.
-pub fn turn_segment(name: Vec<u8>, value: Fixed) -> Result<Vec<u8>, Stop> {
+/// The segment of a turn: the block's name and the value of the genvar, `NAME[i]`, read with a sign. There is no fault but want
+/// of memory.
+pub fn turn_segment(name: Vec<u8>, value: Fixed) -> Result<Vec<u8>, Stop>
+    ensures segment { IfOk result (λ segment. segment.items ≡ turn_name name.items (signed_reading value.value)) }
+    ensures memory { IfErr result (λ stop. stop ≡ Stop.NoMemory) }
+{
     let mut bytes = name;
     let mut buffer = Buffer::new();
     put(&mut bytes, b"[")?;
@@ -48,8 +69,12 @@ pub fn turn_segment(name: Vec<u8>, value: Fixed) -> Result<Vec<u8>, Stop> {
     Ok(bytes)
 }
 
-/// The segment of the block of a construct without a name, with so many zeros before its number: `genblkN`.
-pub fn numbered_segment(alloc: Global, zeros: usize, number: u32) -> Result<Vec<u8>, Stop> {
+/// The segment of the block of a construct without a name, with so many zeros before its number: `genblkN`
+/// (IEEE 1800-2017 27.6). There is no fault but want of memory.
+pub fn numbered_segment(alloc: Global, zeros: usize, number: u32) -> Result<Vec<u8>, Stop>
+    ensures segment { IfOk result (λ segment. segment.items ≡ block_number zeros number) }
+    ensures memory { IfErr result (λ stop. stop ≡ Stop.NoMemory) }
+{
     let mut bytes = bytes_of(alloc, b"genblk")?;
     for _ in 0..zeros {
         put(&mut bytes, b"0")?;

@@ -1,5 +1,9 @@
 //! The faults of elaboration, as the walk finds them.
 
+ghost use Rattle.std.specs.Prelude.{◌≡◌};
+ghost use Rattle.elab_parts.specs.declared.stop.Stop.TheVariants as stops;
+ghost use Rattle.elab_parts.specs.Stops.{of_walk};
+
 use std::alloc::AllocError;
 use sv_expr::WalkFault;
 use sv_tree::{NameId, NoMemory};
@@ -35,6 +39,8 @@ pub enum Stop {
 }
 
 impl From<WalkFault> for Stop {
+    ghost from_gives = { λ fault stop. stop ≡ of_walk fault };
+
     fn from(fault: WalkFault) -> Stop {
         match fault {
             WalkFault::TooWide(at) => Stop::TooWide(at),
@@ -44,12 +50,16 @@ impl From<WalkFault> for Stop {
 }
 
 impl From<NoMemory> for Stop {
+    ghost from_gives = { λ _ stop. stop ≡ stops.NoMemory };
+
     fn from(_: NoMemory) -> Stop {
         Stop::NoMemory
     }
 }
 
 impl From<AllocError> for Stop {
+    ghost from_gives = { λ _ stop. stop ≡ stops.NoMemory };
+
     fn from(_: AllocError) -> Stop {
         Stop::NoMemory
     }
