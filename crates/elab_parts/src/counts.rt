@@ -5,7 +5,7 @@ ghost use Rattle.elab_parts.specs.Stops.{stop_in};
 ghost use Rattle.elab_parts.specs.Counting as counting;
 
 use crate::stop::{Counted, Stop};
-use sv_tree::{Args, Token};
+use sv_tree::{Args, Select, Token};
 use sv_walk::Visit;
 use vs_base::{Origin, limits};
 
@@ -43,9 +43,15 @@ impl Tally {
 }
 
 impl Visit for Tally {
+    ghost told = { λ event old new. Unit {0} };
+
+    fn name(&mut self, _name: Token, _selects: &[Select], _constant: bool) {}
+
     fn call(&mut self, _name: Token, _args: &Args, _constant: bool) {
         self.add_call();
     }
+
+    fn target(&mut self, _name: Token, _selects: &[Select]) {}
 
     fn term(&mut self) {
         self.terms = self.terms.saturating_add(1);

@@ -6,7 +6,7 @@ use parse_stmt::stmt;
 use std::alloc::Global;
 use std::test::Fail;
 use sv_lex::lex;
-use sv_tree::{Names, Select, Token};
+use sv_tree::{Args, Names, Select, Token};
 use sv_walk::{Visit, first_token, visit_expr};
 
 /// How many terms there are, and the columns of the names that are read: those whose place needs a constant, and others.
@@ -18,6 +18,8 @@ struct Seen {
 }
 
 impl Visit for Seen {
+    ghost told = { λ event old new. Unit {0} };
+
     fn name(&mut self, name: Token, _selects: &[Select], constant: bool) {
         let digits = if constant { self.constant } else { self.other };
         let digits = digits.wrapping_mul(10).wrapping_add(name.at.col);
@@ -27,6 +29,10 @@ impl Visit for Seen {
             self.other = digits;
         }
     }
+
+    fn call(&mut self, _name: Token, _args: &Args, _constant: bool) {}
+
+    fn target(&mut self, _name: Token, _selects: &[Select]) {}
 
     fn term(&mut self) {
         self.terms = self.terms.wrapping_add(1);

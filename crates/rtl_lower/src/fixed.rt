@@ -14,6 +14,8 @@ struct Fixity<'a> {
 }
 
 impl Visit for Fixity<'_> {
+    ghost told = { λ event old new. Unit {0} };
+
     fn name(&mut self, name: Token, _selects: &[Select], _constant: bool) {
         if !matches!(self.table.get(name.name), Denoted::Constant(_)) {
             self.fixed = false;
@@ -23,6 +25,10 @@ impl Visit for Fixity<'_> {
     fn call(&mut self, _name: Token, _args: &Args, _constant: bool) {
         self.fixed = false;
     }
+
+    fn target(&mut self, _name: Token, _selects: &[Select]) {}
+
+    fn term(&mut self) {}
 }
 
 /// Whether every expression in the selects is one of parameters and genvars alone.

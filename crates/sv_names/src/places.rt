@@ -7,6 +7,8 @@ use sv_tree::{Args, CommaList, Event, Expr, Select, Token};
 use sv_walk::{Visit, first_token, is_target, visit_args, visit_expr, visit_target};
 
 impl Visit for Checker<'_> {
+    ghost told = { λ event old new. Unit {0} };
+
     fn name(&mut self, name: Token, selects: &[Select], constant: bool) {
         match self.class(name) {
             Class::Nothing => self.offer(DesignFault::UnknownName(name.at, name.name)),
@@ -40,6 +42,8 @@ impl Visit for Checker<'_> {
             _ => self.wrong_use(name),
         }
     }
+
+    fn term(&mut self) {}
 }
 
 impl Checker<'_> {
