@@ -1,4 +1,3 @@
-use Rattle.std.proofs.Common.{◌≡◌}
 use Rattle.model_copy.proofs.built.copied.Goals as goal
 
 -- each fact of the model is one of its copy, since the parts are equal
