@@ -1,3 +1,4 @@
+pub mod Actuals
 pub mod Counting
 pub mod Paths
 pub mod Stops

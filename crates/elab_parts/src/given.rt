@@ -1,5 +1,8 @@
 //! What an instance gives the parameters and the ports of its module, by name or in order.
 
+ghost use Rattle.std.specs.Prelude.{◌≡◌, replicate, slice_set, IfOk};
+ghost use Rattle.elab_parts.specs.Actuals as actuals;
+
 use crate::stop::Stop;
 use std::alloc::Global;
 use sv_tree::{Args, CommaList, Connection, Connections, Expr, NameId, NoMemory, Step, Token};
@@ -27,7 +30,9 @@ pub enum List<'t> {
 }
 
 /// The list of connections or overrides.
-pub fn list_of(connections: &Connections) -> List<'_> {
+pub fn list_of(connections: &Connections) -> List<'_>
+    ensures { actuals.IsListOf connections.now result }
+{
     match connections {
         Connections::Ordered(Args::Empty) => List::Empty,
         Connections::Ordered(Args::Listed { first, more }) => {
@@ -45,7 +50,9 @@ pub struct Places {
 
 impl Places {
     /// No name has one. `count`: how many names there are.
-    pub fn none(alloc: Global, count: usize) -> Result<Places, NoMemory> {
+    pub fn none(alloc: Global, count: usize) -> Result<Places, NoMemory>
+        ensures { IfOk result (λ places. actuals.places_in places ≡ replicate count 0) }
+    {
         match Vec::from_elem(alloc, 0, count) {
             Ok(places) => Ok(Places { places }),
             Err(_) => Err(NoMemory),
@@ -53,7 +60,9 @@ impl Places {
     }
 
     /// Gives a name its place.
-    fn put(&mut self, name: NameId, place: u32) {
+    fn put(&mut self, name: NameId, place: u32)
+        ensures { actuals.places_in self.new ≡ slice_set (actuals.places_in self.old) name.0 place }
+    {
         let at = name.0 as usize;
         if at < self.places.len() {
             self.places[at] = place;
@@ -61,7 +70,9 @@ impl Places {
     }
 
     /// The place of a name.
-    fn place(&self, name: NameId) -> u32 {
+    fn place(&self, name: NameId) -> u32
+        ensures { result ≡ actuals.place_of (actuals.places_in self.now) name.0 }
+    {
         match self.places.get(name.0 as usize) {
             Some(place) => *place,
             None => 0,
@@ -104,7 +115,9 @@ impl Places {
 }
 
 /// What is given to the one of this number.
-fn in_order<'t>(first: &'t Expr, more: &'t [Step], number: usize) -> Given<'t> {
+fn in_order<'t>(first: &'t Expr, more: &'t [Step], number: usize) -> Given<'t>
+    ensures { actuals.actual result ≡ actuals.in_order first.now more.now number }
+{
     if number == 0 {
         return Given::Value(first);
     }
@@ -129,7 +142,9 @@ fn by_place(named: &CommaList<Connection>, place: u32) -> Given<'_> {
 }
 
 /// What a connection gives: `.p` means `.p(p)`, and `.p()` nothing.
-pub fn of_connection(connection: &Connection) -> Given<'_> {
+pub fn of_connection(connection: &Connection) -> Given<'_>
+    ensures { actuals.actual result ≡ actuals.of_connection connection.now }
+{
     match &connection.value {
         None => Given::Same(connection.name),
         Some(connected) => match &connected.value {

@@ -19,7 +19,9 @@
 //!
 //! # What is proved
 //!
-//! All calls are safe and end. That each finds the first fault, and counts what the thing lays down, is not proved.
+//! All calls are safe and end. What becomes of each count and each limit's fault stand in `specs/Counting.antt`, the bytes
+//! of paths in `Paths.antt`, and what a connection of an instance gives in `Actuals.antt`. That a thing's first fault is
+//! found, and that all that it lays down is counted, is not proved.
 //!
 //! # Cost
 //!
