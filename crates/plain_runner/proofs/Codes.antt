@@ -1,11 +1,9 @@
 -- The codes of a model.
-use Rattle.std.proofs.Common.{◌≡◌, ℕ, zero, suc, ◌≤◌, max, List, [], ◌∷◌, slice_get, Option, Some, None, refl, sym, ap, subst, ◌∙◌, arith}
+use Rattle.std.proofs.Common.{◌≡◌, ℕ, zero, suc, ◌≤◌, max, List, [], ◌∷◌, slice_get, Some, ap, subst, arith}
 use Rattle.std.specs.List.{fold}
 use Rattle.task_eval.specs.Codes.{Ops, deepest}
-use Rattle.task_eval.specs.Course.{course_of}
 use Rattle.task_eval.specs.Soundness.{IsWithin}
 use Rattle.plan_types.specs.Coded.{AllWithin}
-use Rattle.plan_types.specs.Machine.{course_if, course_at}
 
 abbrev deeper : ℕ → Ops → ℕ
 deeper most code = max most code.stack

@@ -1,6 +1,6 @@
 -- What a run on one thread does is what a run of the model means.
-use Rattle.std.proofs.Common.{◌≡◌, ℕ, Bool, true, false, cond, List, [], ◌∷◌, ◌++◌, length, map, slice_set, slice_index, Option, Some, None, refl, sym, ap, subst, ◌∙◌}
-use Rattle.std.specs.List.{list_any, fold}
+use Rattle.std.proofs.Common.{◌≡◌, ℕ, Bool, true, false, cond, List, [], ◌∷◌, ◌++◌, slice_index, Some, refl, sym, ap, subst, ◌∙◌}
+use Rattle.std.specs.List.{list_any}
 use Rattle.vs_base.specs.Number.{Number}
 use Rattle.rtl_ir.specs.declared.design.Proc.{Proc}
 use Rattle.plan_graph.specs.declared.node.Node.{Node}
@@ -12,7 +12,7 @@ use Rattle.task_eval.specs.Buses.{Outside, Deed, stored, called, run}
 use Rattle.plan_types.specs.Coded.{code_number}
 use Rattle.plan_types.specs.Machine.{Machine, is_run, course_at, kept_deed, kept_deeds, put_inputs, input_words, fired_of, run_node, run_nodes, settled, clocked_if, clocked, closed, evaluated}
 use Rattle.plan_types.specs.declared.built.Built.{Built}
-use Rattle.plain_runner.specs.Seen.{Seen, seen_of, Env, env_of, machine_of, reply_in, call_in, store_in, go, go_node, go_nodes, settled_in, clocked_if_in, clocked_in}
+use Rattle.plain_runner.specs.Seen.{Seen, seen_of, Env, env_of, machine_of, reply_in, call_in, store_in, go, go_node, go_nodes, settled_in, clocked_in}
 
 append_none : (calls : List Call) → calls ++ [] ≡ calls
 append_none [] = refl

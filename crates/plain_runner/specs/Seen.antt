@@ -1,5 +1,5 @@
 -- A run as one thread makes it: the words, the host's state and the calls that are kept so far.
-use Rattle.std.specs.Prelude.{◌≡◌, ℕ, Bool, if◌then◌else◌, List, [], ◌∷◌, ◌++◌, slice_set, slice_index, None}
+use Rattle.std.specs.Prelude.{ℕ, Bool, if◌then◌else◌, List, [], ◌++◌, slice_set, slice_index, None}
 use Rattle.std.specs.List.{list_any, fold}
 use Rattle.vs_base.specs.Number.{Number}
 use Rattle.rtl_ir.specs.declared.design.Proc.{Proc}

@@ -1,5 +1,5 @@
 -- That tables are those of a model.
-use Rattle.std.specs.Prelude.{◌≡◌, ◌<◌, ◌≤◌, ℕ, length, map, slice_index}
+use Rattle.std.specs.Prelude.{◌≡◌, ◌<◌, ℕ, length, map, slice_index}
 use Rattle.plan_types.specs.Coded.{code_number}
 use Rattle.plan_types.specs.Machine.{input_words, event_word, result_widths}
 use Rattle.plan_types.specs.declared.built.Built.{Built}

@@ -1,5 +1,5 @@
 -- One turn of a run.
-use Rattle.std.specs.Prelude.{◌≡◌, ◌<◌, Bool, true, false, length}
+use Rattle.std.specs.Prelude.{◌≡◌, ◌<◌, Bool, true, false}
 use Rattle.dpi_host.specs.HostMachine.{Answer, After}
 use Rattle.task_eval.specs.Codes.{Ops}
 use Rattle.task_eval.specs.Frames.{Running, going, IsReady}

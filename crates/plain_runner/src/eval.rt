@@ -1,5 +1,5 @@
 //! One eval.
-ghost use Rattle.std.specs.Prelude.{◌≡◌, ◌≤◌, ℕ, [], length, slice_index_or, IfOk, OnOk};
+ghost use Rattle.std.specs.Prelude.{◌≡◌, ◌≤◌, length, OnOk};
 ghost use Rattle.task_eval.specs.Codes.{deepest};
 ghost use Rattle.plan_types.specs.Machine.{IsInput, evaluated};
 ghost use Rattle.plain_runner.specs.Seen.{seen_of, env_of, machine_of, settled_in, clocked_in};

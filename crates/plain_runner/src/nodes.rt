@@ -1,5 +1,5 @@
 //! The run of nodes.
-ghost use Rattle.std.specs.Prelude.{◌≡◌, ◌≤◌, length, map, slice_index_or, false, IfOk, OnOk};
+ghost use Rattle.std.specs.Prelude.{◌≡◌, ◌≤◌, length, map, slice_index_or, false, OnOk};
 ghost use Rattle.task_eval.specs.Codes.{deepest};
 ghost use Rattle.plan_types.specs.Coded.{code_number};
 ghost use Rattle.plan_types.specs.Machine.{is_run as runs, course_at};

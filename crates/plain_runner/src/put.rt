@@ -1,5 +1,5 @@
 //! The inputs.
-ghost use Rattle.std.specs.Prelude.{◌≡◌, ◌≤◌, ℕ, slice_index_or, length};
+ghost use Rattle.std.specs.Prelude.{◌≡◌, ◌≤◌, ℕ, slice_index_or};
 ghost use Rattle.plan_types.specs.Machine.{put_inputs, no_number};
 
 use plan_types::InputWord;

@@ -1,5 +1,5 @@
 //! The runner.
-ghost use Rattle.std.specs.Prelude.{◌≡◌, ◌≤◌, length, [], IfOk};
+ghost use Rattle.std.specs.Prelude.{◌≡◌, ◌≤◌, length, IfOk};
 ghost use Rattle.task_eval.specs.Codes.{deepest};
 ghost use Rattle.plan_types.specs.Machine.{opening};
 ghost use Rattle.plain_runner.specs.Seen.{seen_of, env_of, machine_of};

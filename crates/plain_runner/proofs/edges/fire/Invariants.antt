@@ -1,4 +1,4 @@
-use Rattle.std.proofs.Common.{◌≡◌, ℕ, Bool, length, take}
+use Rattle.std.proofs.Common.{◌≡◌, Bool, length, take}
 use Rattle.std.specs.List.{list_any}
 use Rattle.plan_types.specs.Machine.{fired_of}
 use Rattle.plain_runner.proofs.edges.fire.Given as goal

@@ -1,5 +1,5 @@
-use Rattle.std.proofs.Common.{◌≡◌, ◌≤◌, ℕ, length, Some, None, Option, sym, ap, subst, ◌∙◌, arith}
-use Rattle.task_eval.specs.Codes.{Ops, deepest}
+use Rattle.std.proofs.Common.{ℕ, length, Option, sym, ap, subst, arith}
+use Rattle.task_eval.specs.Codes.{Ops}
 use Rattle.plan_types.specs.Coded.{AllWithin}
 use Rattle.plan_types.specs.Machine.{course_if}
 use Rattle.plain_runner.specs.Seen.{seen_of, env_of, go}
