@@ -2,7 +2,7 @@
 ghost use Rattle.std.specs.Prelude.{◌≡◌, ◌<◌, ◌+◌, ◌^◌, ◌++◌, ◌∷◌, [], length, OnOk, IfErr, true};
 ghost use Rattle.vs_world.specs.declared.world.Stream.TheVariants.{Calls as CallStream, Vcd as VcdStream};
 ghost use Rattle.vs_world.specs.Outside.{IsOpen};
-ghost use Rattle.plan_types.specs.Machine.{evaluated, values_of, kept_of, IsInput};
+ghost use Rattle.plan_types.specs.Machine.{evaluated, values_of, kept_of};
 ghost use Rattle.vcd_out.specs.Changes.{widths_of, widths_of_vars};
 ghost use Rattle.vcd_out.specs.Buffer.{Serves};
 ghost use Rattle.sim_session.specs.Inputs.{input_if, inputs_at};

@@ -5,7 +5,7 @@ ghost use Rattle.std.specs.Option.{option_copied};
 ghost use Rattle.vs_base.specs.Number.{kept};
 ghost use Rattle.rtl_ir.specs.Types.{is_type, result_is_type};
 ghost use Rattle.sim_session.specs.Lines.{hex_text};
-ghost use Rattle.sim_session.specs.CallLines.{args_text, reply_text, rest_text, import_text, call_of, call_line, call_lines};
+ghost use Rattle.sim_session.specs.CallLines.{args_text, reply_text, rest_text, import_text, call_of, call_lines};
 
 use crate::hex::{put_decimal, put_hex};
 use dpi_host::CallRec;

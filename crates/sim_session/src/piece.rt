@@ -1,7 +1,7 @@
 //! Writing a piece.
 ghost use Rattle.std.specs.Prelude.{OnOk, IfErr, ◌∷◌, []};
 ghost use Rattle.vs_world.specs.Outside.{IsOpen};
-ghost use Rattle.sim_session.specs.Pieces.{seen, Wrote, Ended, Piece};
+ghost use Rattle.sim_session.specs.Pieces.{seen, Wrote, Ended};
 ghost use Rattle.sim_session.specs.Pieces.{piece};
 
 use crate::fault::SessionFault;

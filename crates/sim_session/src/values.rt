@@ -1,5 +1,5 @@
 //! The values of the variables, out of the words.
-ghost use Rattle.std.specs.Prelude.{◌≡◌, ◌≤◌, ◌<◌, length, OnOk, IfOk, true};
+ghost use Rattle.std.specs.Prelude.{◌≡◌, length, OnOk, true};
 ghost use Rattle.plan_types.specs.Machine.{is_piece, values_of};
 ghost use Rattle.sim_session.specs.Values.{zeros_of, put_word, put_words, is_short};
 ghost use Rattle.sim_session.specs.Ready.{IsOrdinary};

@@ -1,5 +1,5 @@
 //! A whole run.
-ghost use Rattle.std.specs.Prelude.{◌≡◌, ◌≤◌, ◌<◌, ◌++◌, ◌∷◌, [], ℕ, length, OnOk, OnErr, IfOk, IfErr, IsTrue, true, is_some};
+ghost use Rattle.std.specs.Prelude.{◌≡◌, ◌≤◌, length, OnOk, IfOk, IfErr, true, is_some};
 ghost use Rattle.std.specs.List.{list_all};
 ghost use Rattle.std.specs.Option.{option_map};
 ghost use Rattle.vs_base.specs.Number.{kept};
@@ -8,7 +8,6 @@ ghost use Rattle.vs_base.specs.declared.limits.TheConstants.{EVALS};
 ghost use Rattle.vs_world.specs.declared.world.Stream.TheVariants.{Calls as CallStream, Vcd as VcdStream};
 ghost use Rattle.vs_world.specs.Outside.{IsOpen, IsCreatable};
 ghost use Rattle.vcd_out.specs.Header as head;
-ghost use Rattle.vcd_out.specs.Buffer.{Serves};
 ghost use Rattle.stimulus.specs.Stimulus.{act_fits, design_ports, evals_in};
 ghost use Rattle.sim_session.specs.Inputs.{port_width, opening_ports, inputs_of};
 ghost use Rattle.sim_session.specs.Values.{is_short};
