@@ -1,6 +1,5 @@
 -- What is met in small expressions, layer by layer.
 use Rattle.std.specs.Prelude.{◌≡◌, ℕ, Bool, true, false, List, [], ◌∷◌, codes, refl}
-use Rattle.vs_base.specs.declared.origin.Origin.{Origin}
 use Rattle.sv_tree.specs.declared.token.Token.{Token}
 use Rattle.sv_tree.specs.declared.token.TokenKind.TheVariants as kind
 use Rattle.sv_tree.specs.declared.tree.expr.Choice.{Choice}

@@ -1,12 +1,12 @@
 -- The first token of parts that stand one after another, and of the targets among them.
-use Rattle.std.proofs.Common.{◌≡◌, ◌<◌, ◌≤◌, ℕ, suc, Bool, List, [], ◌∷◌, length, drop, get_or, slice_get, map, Option, Some, None, sym, ap, ◌∙◌, subst, arith}
+use Rattle.std.proofs.Common.{◌≡◌, ◌<◌, ◌≤◌, ℕ, suc, List, [], ◌∷◌, length, drop, get_or, slice_get, map, Some, None, sym, ap, ◌∙◌, subst, arith}
 use Rattle.std.specs.Prelude.{◌&&◌}
 use Rattle.std.proofs.Math.Seq.{drop-cons}
 use Rattle.sv_tree.specs.declared.token.Token.{Token}
 use Rattle.sv_tree.specs.declared.tree.expr.Choice.{Choice}
 use Rattle.sv_tree.specs.declared.tree.expr.Step.{Step}
 use Rattle.sv_tree.specs.declared.tree.expr.Args.TheOpen.{Expr-F}
-use Rattle.sv_tree.specs.TreeRead.{Read, all_of}
+use Rattle.sv_tree.specs.TreeRead.{all_of}
 use Rattle.sv_tree.specs.TreeExpr.{ExprRead, expr_read, read_expr, choice_read}
 use Rattle.sv_tree.specs.TreeExprLaws.{choice-roll}
 use Rattle.sv_walk.specs.First.{BeginsWith}

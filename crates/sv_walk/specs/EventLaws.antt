@@ -1,6 +1,5 @@
 -- The equations of what is met in an expression, one for each form, and that a part keeps the tree that it is of.
-use Rattle.std.proofs.Common.{◌≡◌, ℕ, Bool, true, false, List, [], ◌∷◌, ◌++◌, map, refl, sym, ap, ◌∙◌, subst}
-use Rattle.std.specs.Prelude.{◌||◌}
+use Rattle.std.proofs.Common.{◌≡◌, ℕ, Bool, false, List, [], ◌∷◌, map, refl, sym, ap, ◌∙◌, subst}
 use denote.Hole.Holds.{Such}
 use Rattle.sv_tree.specs.declared.token.Token.{Token}
 use Rattle.sv_tree.specs.declared.tree.expr.Expr.{Expr}
@@ -9,13 +8,13 @@ use Rattle.sv_tree.specs.declared.tree.expr.Choice.{Choice}
 use Rattle.sv_tree.specs.declared.tree.expr.Select.{Select}
 use Rattle.sv_tree.specs.declared.tree.expr.Step.{Step}
 use Rattle.sv_tree.specs.declared.tree.expr.Args.TheBlock.{the_family, member-Args, member-Expr, member-Select, member-Choice, member-Step}
-use Rattle.sv_tree.specs.declared.tree.expr.Args.TheFolds.{claims, ind-Args, map-Args, fold-roll-Args, ind-Expr, map-Expr, fold-roll-Expr, ind-Select, map-Select, fold-roll-Select, ind-Choice, map-Choice, fold-roll-Choice, ind-Step, map-Step, fold-roll-Step}
+use Rattle.sv_tree.specs.declared.tree.expr.Args.TheFolds.{claims, ind-Args, map-Args, fold-roll-Args, map-Expr, fold-roll-Expr, ind-Select, map-Select, fold-roll-Select, map-Choice, fold-roll-Choice, map-Step, fold-roll-Step}
 use Rattle.sv_tree.specs.declared.tree.expr.Args.TheOpen.{Args-F, Expr-F, Select-F, Choice-F, Step-F}
 use Rattle.sv_tree.specs.declared.tree.expr.Args.TheVariants as args
 use Rattle.sv_tree.specs.declared.tree.expr.Args.TheViews.{roll-Args, roll-Expr, roll-Select, roll-Choice, roll-Step}
 use Rattle.sv_tree.specs.declared.tree.expr.Expr.TheVariants as expr
 use Rattle.sv_tree.specs.declared.tree.expr.Select.TheVariants as select
-use Rattle.sv_walk.specs.Events.{Event, Named, Called, Written, Term, Part, trees, each, each_after_operator, each_written, operators, is_ceiling_log, is_range, args_layer, expr_layer, select_layer, choice_layer, step_layer, args_part, expr_part, select_part, choice_part, step_part, events, args_events, select_events, written_events}
+use Rattle.sv_walk.specs.Events.{Named, Called, Written, Term, Part, trees, args_layer, expr_layer, select_layer, choice_layer, step_layer, args_part, expr_part, select_part, choice_part, step_part, events, args_events, select_events, written_events}
 
 module _ (names : List (List ℕ)) where
   -- ---- one layer of a part

@@ -1,5 +1,5 @@
 -- The equations of what is met in what is written, and of which expressions may be written, one for each form.
-use Rattle.std.proofs.Common.{◌≡◌, ℕ, Bool, true, false, List, [], ◌∷◌, ◌++◌, map, refl, sym, ap, ◌∙◌}
+use Rattle.std.proofs.Common.{◌≡◌, ℕ, Bool, true, false, List, map, sym, ap, ◌∙◌}
 use Rattle.std.specs.Prelude.{◌&&◌}
 use Rattle.std.specs.List.{list_all}
 use Rattle.sv_tree.specs.declared.token.Token.{Token}
@@ -8,16 +8,15 @@ use Rattle.sv_tree.specs.declared.tree.expr.Args.{Args}
 use Rattle.sv_tree.specs.declared.tree.expr.Choice.{Choice}
 use Rattle.sv_tree.specs.declared.tree.expr.Select.{Select}
 use Rattle.sv_tree.specs.declared.tree.expr.Step.{Step, roll-Step}
-use Rattle.sv_tree.specs.declared.tree.expr.Args.TheFolds.{map-Expr, fold-roll-Expr, fold-roll-Step}
-use Rattle.sv_tree.specs.declared.tree.expr.Args.TheOpen.{Expr-F, Step-F}
-use Rattle.sv_tree.specs.declared.tree.expr.Args.TheViews.{roll-Expr}
+use Rattle.sv_tree.specs.declared.tree.expr.Args.TheFolds.{fold-roll-Expr, fold-roll-Step}
+use Rattle.sv_tree.specs.declared.tree.expr.Args.TheOpen.{Expr-F}
 use Rattle.sv_tree.specs.declared.tree.expr.Expr.TheVariants as expr
 use Rattle.sv_tree.specs.declared.tree.stmt.Lvalue.{Lvalue}
 use Rattle.sv_tree.specs.declared.tree.stmt.Lvalue.TheFolds.{fold-roll-Lvalue, fold-roll-LvalueStep}
 use Rattle.sv_tree.specs.declared.tree.stmt.Lvalue.TheOpen.{Lvalue-F}
 use Rattle.sv_tree.specs.declared.tree.stmt.Lvalue.TheVariants as lvalue
 use Rattle.sv_tree.specs.declared.tree.stmt.LvalueStep.{LvalueStep, roll-LvalueStep}
-use Rattle.sv_walk.specs.Events.{Event, Written, select_events}
+use Rattle.sv_walk.specs.Events.{Event}
 use Rattle.sv_walk.specs.Targets.{lvalue_layer, lvalue_step_layer, lvalue_events, lvalue_step_events, is_target_layer, step_target_layer, is_target, is_step_target}
 
 module _ (names : List (List ℕ)) where

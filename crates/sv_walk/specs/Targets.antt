@@ -1,9 +1,9 @@
 -- What a walk over what is written meets, and which expressions may be written (IEEE 1800-2017 A.8.5).
-use Rattle.std.specs.Prelude.{ℕ, Bool, true, false, ◌&&◌, List, [], ◌∷◌, ◌++◌}
+use Rattle.std.specs.Prelude.{ℕ, Bool, true, false, ◌&&◌, List, ◌∷◌, ◌++◌}
 use Rattle.std.specs.List.{flat_map, list_all}
 use Rattle.sv_tree.specs.declared.tree.expr.Expr.{Expr}
 use Rattle.sv_tree.specs.declared.tree.expr.Step.{Step}
-use Rattle.sv_tree.specs.declared.tree.expr.Args.TheOpen.{Args-F, Expr-F, Select-F, Choice-F, Step-F}
+use Rattle.sv_tree.specs.declared.tree.expr.Args.TheOpen.{Expr-F, Step-F}
 use Rattle.sv_tree.specs.declared.tree.expr.Args.TheFolds as folds
 use Rattle.sv_tree.specs.declared.tree.stmt.Lvalue.{Lvalue}
 use Rattle.sv_tree.specs.declared.tree.stmt.Lvalue.TheFolds as lvalues

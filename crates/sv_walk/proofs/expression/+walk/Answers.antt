@@ -1,4 +1,4 @@
-use Rattle.std.proofs.Common.{◌≡◌, List, [], ◌∷◌, ◌++◌, map, refl, sym, ap, ◌∙◌, add-one}
+use Rattle.std.proofs.Common.{◌∷◌, ◌++◌, map, refl, ap, add-one}
 use Rattle.sv_walk.specs.Events.{Term, step_part, choice_part, each, each_after_operator}
 use Rattle.sv_walk.specs.EventLaws as law
 use Rattle.sv_walk.specs.Tells.{tells_nothing, tells_one, ◌and◌}

@@ -1,4 +1,4 @@
-use Rattle.std.proofs.Common.{◌≡◌, Some, refl, sym, ap, ◌∙◌, subst, slice_get, arith}
+use Rattle.std.proofs.Common.{◌≡◌, refl, sym, ap, ◌∙◌, subst, slice_get}
 use Rattle.sv_tree.specs.declared.token.Token.{Token}
 use Rattle.sv_tree.specs.declared.tree.expr.Expr.{Expr}
 use Rattle.sv_tree.specs.TreeExpr.{ExprRead, expr_read}

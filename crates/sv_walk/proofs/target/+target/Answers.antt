@@ -1,4 +1,4 @@
-use Rattle.std.proofs.Common.{◌≡◌, ◌+◌, Bool, true, false, suc, drop, sym, ap, ◌∙◌, add-one}
+use Rattle.std.proofs.Common.{◌≡◌, Bool, true, false, suc, drop, sym, ap, ◌∙◌, add-one}
 use Rattle.std.specs.Prelude.{◌&&◌}
 use Rattle.sv_walk.specs.Targets.{is_target}
 use Rattle.sv_walk.specs.TargetLaws as law
