@@ -5,7 +5,7 @@ use Rattle.plan_graph.specs.declared.node.Part.{Part}
 use Rattle.order_levels.specs.Serial.{serial_nodes}
 use Rattle.task_eval.specs.Codes.{Ops}
 use Rattle.plan_types.specs.declared.plan.ValidPlan.{ValidPlan}
-use Rattle.plan_types.specs.OneTask.{groups_of, lists_of}
+use Rattle.plan_types.specs.OneTask.{groups_of, first_tasks, numbers_of, lists_of}
 use Rattle.model_build.specs.Settle.{clocked_of}
 use Rattle.model_build.specs.Costs.{node_cost}
 
@@ -15,4 +15,6 @@ pub record IsPlan (procs : List Proc) (codes : List Ops) (order : List ℕ) (par
   pub costs : plan.graph.costs ≡ map (node_cost procs codes) plan.nodes
   pub edges : plan.graph.edges ≡ []
   pub groups : plan.groups ≡ groups_of (length plan.nodes)
+  pub tasks : plan.tasks ≡ first_tasks (length plan.nodes)
+  pub order : plan.order ≡ numbers_of (length plan.nodes)
   pub threads : plan.threads ≡ lists_of (length plan.nodes)
