@@ -1,3 +1,4 @@
 pub mod Tailing
 pub mod Copying
 pub mod Bodies
+mod Examples
