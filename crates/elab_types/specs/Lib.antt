@@ -5,3 +5,4 @@ pub mod Port
 pub mod Value
 pub mod Parameter
 pub mod Turns
+pub mod Branch

@@ -1,5 +1,5 @@
 -- The turns of loops (IEEE 1800-2017 12.7.1, 27.4).
-use Rattle.std.specs.Prelude.{ℕ, Bool, true, false, if◌then◌else◌, List, Option, Some, None}
+use Rattle.std.specs.Prelude.{ℕ, Bool, true, false, if◌then◌else◌, List, Option, None}
 use Rattle.vs_base.specs.declared.types.ValueType.{ValueType}
 use Rattle.vs_base.specs.Number.{Number, kept, added}
 use Rattle.vs_base.specs.Operators.{holds_true, subtracted}

@@ -16,5 +16,5 @@ pub record IsPlan (procs : List Proc) (codes : List Ops) (order : List ℕ) (par
   pub edges : plan.graph.edges ≡ []
   pub groups : plan.groups ≡ groups_of (length plan.nodes)
   pub tasks : plan.tasks ≡ first_tasks (length plan.nodes)
-  pub order : plan.order ≡ numbers_of (length plan.nodes)
+  pub placement : plan.order ≡ numbers_of (length plan.nodes)
   pub threads : plan.threads ≡ lists_of (length plan.nodes)

@@ -1,4 +1,4 @@
-use Rattle.std.proofs.Common.{◌≡◌, ◌++◌, ◌-◌, replicate, codes}
+use Rattle.std.proofs.Common.{◌≡◌, ◌++◌, replicate, codes}
 use Rattle.elab_parts.specs.Paths.{zero_digit}
 use Rattle.elab_parts.proofs.path.numbered_segment.Given as goal
 
