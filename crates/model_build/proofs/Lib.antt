@@ -5,3 +5,4 @@ pub mod Coding
 pub mod Uses
 pub mod Touch
 pub mod Planned
+mod Examples
