@@ -2,6 +2,7 @@
 use Rattle.std.specs.Prelude.{ℕ, ◌+◌, ◌-◌, ◌^◌, min, nat_lt, if◌then◌else◌, Option, Some, None}
 use Rattle.vs_base.specs.declared.limits.TheConstants.{INSTANCES, PROCESSES, TERMS, CALLS, LOOP_TURNS}
 use Rattle.vs_base.specs.declared.origin.Origin.{Origin}
+use Rattle.sv_walk.specs.Events.{Event, Named, Called, Written, Term}
 use Rattle.elab_parts.specs.declared.counts.Counts.{Counts}
 use Rattle.elab_parts.specs.declared.counts.Tally.{Tally}
 use Rattle.elab_parts.specs.declared.stop.Counted.{Counted}
@@ -19,6 +20,16 @@ tally terms calls = record { terms = terms; calls = calls }
 -- one call more, up to the greatest number of 64 bits
 abbrev pub one_call_more : Tally → Tally
 one_call_more t = record t { calls = min (t.calls + 1) (2 ^ 64 - 1) }
+
+abbrev pub one_term_more : Tally → Tally
+one_term_more t = record t { terms = min (t.terms + 1) (2 ^ 64 - 1) }
+
+-- what a walk over expressions and over what is written adds: each term, each call of an import; names nothing
+abbrev pub after_event : Event → Tally → Tally
+after_event Term t = one_term_more t
+after_event (Called name args constant) t = one_call_more t
+after_event (Named name selects constant) t = t
+after_event (Written name selects) t = t
 
 -- ---- a limit
 

@@ -1,6 +1,5 @@
 -- The fault that ends the walk, if there is one.
 use Rattle.std.specs.Prelude.{Option, Some, None, Result, Ok, Err}
-use Rattle.std.specs.Option.{option_map}
 use Rattle.sv_expr.specs.declared.fault.WalkFault.{WalkFault}
 use Rattle.sv_expr.specs.declared.fault.WalkFault.TheVariants as fault
 use Rattle.elab_parts.specs.declared.stop.Stop.{Stop}
@@ -20,6 +19,3 @@ None or b = b
 abbrev pub of_walk : WalkFault → Stop
 of_walk (fault.TooWide at) = stop.TooWide at
 of_walk (fault.BadRange at) = stop.BadRange at
-
-abbrev pub of_walk_if : Option WalkFault → Option Stop
-of_walk_if f = option_map of_walk f

@@ -43,7 +43,7 @@ impl Tally {
 }
 
 impl Visit for Tally {
-    ghost told = { λ event old new. Unit {0} };
+    ghost told = { λ event old new. new ≡ counting.after_event event old };
 
     fn name(&mut self, _name: Token, _selects: &[Select], _constant: bool) {}
 

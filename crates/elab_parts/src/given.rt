@@ -1,11 +1,14 @@
 //! What an instance gives the parameters and the ports of its module, by name or in order.
 
-ghost use Rattle.std.specs.Prelude.{◌≡◌, replicate, slice_set, IfOk};
+ghost use Rattle.std.specs.Prelude.{◌≡◌, map, replicate, slice_get, slice_set, IfOk};
+ghost use Rattle.std.specs.Option.{option_copied, option_map};
 ghost use Rattle.elab_parts.specs.Actuals as actuals;
 
 use crate::stop::Stop;
 use std::alloc::Global;
-use sv_tree::{Args, CommaList, Connection, Connections, Expr, NameId, NoMemory, Step, Token};
+use sv_tree::{
+    Args, CommaList, Connection, Connections, Expr, Joined, NameId, NoMemory, Step, Token,
+};
 
 /// What is given to a parameter or a port.
 #[derive(Clone, Copy)]
@@ -79,37 +82,74 @@ impl Places {
         }
     }
 
-    /// Gives each name of a list its place in it.
-    pub fn fill(&mut self, list: List<'_>) {
-        let List::Named(named) = list else {
-            return;
-        };
-        self.put(named.first.name.name, 1);
-        let mut place: u32 = 1;
-        for joined in named.more.as_slice() {
-            place = place.saturating_add(1);
+    /// Gives each name of a list its place in it. Of a name that stands twice the last place counts.
+    pub fn fill(&mut self, list: List<'_>)
+        ensures { actuals.places_in self.new ≡ actuals.filled list.entry (actuals.places_in self.old) }
+    {
+        match list {
+            List::Empty => {}
+            List::Ordered(_, _) => {}
+            List::Named(named) => {
+                self.put(named.first.name.name, 1);
+                self.put_more(named.more.as_slice());
+            }
+        }
+    }
+
+    /// Gives the names after the first one their places.
+    fn put_more(&mut self, more: &[Joined<Connection>])
+        ensures { actuals.places_in self.new ≡ actuals.placed_from 2 (map (λ j. j.item) more.now) (actuals.places_in self.old) }
+    {
+        let mut place: u32 = 2;
+        for joined in more {
             self.put(joined.item.name.name, place);
+            place = place.saturating_add(1);
         }
     }
 
     /// Takes the places of the names of a list away.
-    pub fn clear(&mut self, list: List<'_>) {
-        let List::Named(named) = list else {
-            return;
-        };
-        self.put(named.first.name.name, 0);
-        for joined in named.more.as_slice() {
+    pub fn clear(&mut self, list: List<'_>)
+        ensures { actuals.places_in self.new ≡ actuals.cleared list.entry (actuals.places_in self.old) }
+    {
+        match list {
+            List::Empty => {}
+            List::Ordered(_, _) => {}
+            List::Named(named) => {
+                self.put(named.first.name.name, 0);
+                self.clear_more(named.more.as_slice());
+            }
+        }
+    }
+
+    /// Takes the places of the names after the first one away.
+    fn clear_more(&mut self, more: &[Joined<Connection>])
+        ensures { actuals.places_in self.new ≡ actuals.without (map (λ j. j.item) more.now) (actuals.places_in self.old) }
+    {
+        for joined in more {
             self.put(joined.item.name.name, 0);
+        }
+    }
+
+    /// The connection of this name in a list whose names have their places. `None`: it has none.
+    pub fn named<'t>(&self, list: List<'t>, name: NameId) -> Option<&'t Connection>
+        ensures { option_copied result ≡ actuals.named list.entry (actuals.places_in self.now) name.0 }
+    {
+        match list {
+            List::Empty => None,
+            List::Ordered(_, _) => None,
+            List::Named(named) => at_place(named, self.place(name)),
         }
     }
 
     /// What a list, whose names have their places, gives to the parameter or port of this name, which is the one of
     /// this number in its module.
-    pub fn given<'t>(&self, list: List<'t>, name: NameId, number: usize) -> Given<'t> {
+    pub fn given<'t>(&self, list: List<'t>, name: NameId, number: usize) -> Given<'t>
+        ensures { actuals.actual result ≡ actuals.given_in list.entry (actuals.places_in self.now) name.0 number }
+    {
         match list {
             List::Empty => Given::Nothing,
             List::Ordered(first, more) => in_order(first, more, number),
-            List::Named(named) => by_place(named, self.place(name)),
+            List::Named(_) => of_connection_if(self.named(list, name)),
         }
     }
 }
@@ -127,16 +167,35 @@ fn in_order<'t>(first: &'t Expr, more: &'t [Step], number: usize) -> Given<'t>
     }
 }
 
-/// What the connection of this place gives.
-fn by_place(named: &CommaList<Connection>, place: u32) -> Given<'_> {
+/// The connection of this place, counted from 1.
+fn at_place(named: &CommaList<Connection>, place: u32) -> Option<&Connection>
+    ensures { option_copied result ≡ actuals.at_place (actuals.connections_in named.now) place }
+{
     if place == 0 {
-        return Given::Nothing;
+        return None;
     }
     if place == 1 {
-        return of_connection(&named.first);
+        return Some(&named.first);
     }
-    match named.more.as_slice().get((place - 2) as usize) {
-        Some(joined) => of_connection(&joined.item),
+    later(named.more.as_slice(), (place - 2) as usize)
+}
+
+/// The connection of this number after the first one, counted from 0.
+fn later(more: &[Joined<Connection>], number: usize) -> Option<&Connection>
+    ensures { option_copied result ≡ option_map (λ j. j.item) (slice_get more.now number) }
+{
+    match more.get(number) {
+        Some(joined) => Some(&joined.item),
+        None => None,
+    }
+}
+
+/// What the connection of a name gives, where it has one.
+fn of_connection_if(connection: Option<&Connection>) -> Given<'_>
+    ensures { actuals.actual result ≡ actuals.of_connection_if (option_copied connection.entry) }
+{
+    match connection {
+        Some(connection) => of_connection(connection),
         None => Given::Nothing,
     }
 }

@@ -51,7 +51,7 @@ mod stop;
 pub use connect::{Joined, join_ports, joined_top};
 pub use counts::Counts;
 pub use declared::{declare_body, declare_module};
-pub use given::{List, Places, list_of};
+pub use given::{Given, List, Places, list_of};
 pub use head::{Head, HeadPort, Outer, constant_of, head_of, is_parameter};
 pub use path::{inner, numbered_segment, root, turn_segment};
 pub use plain::import_denoted;

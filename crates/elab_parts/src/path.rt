@@ -1,6 +1,6 @@
 //! The paths of scopes.
 
-ghost use Rattle.std.specs.Prelude.{◌≡◌, ◌++◌, IfOk, IfErr, OnOk, codes};
+ghost use Rattle.std.specs.Prelude.{◌≡◌, ◌++◌, IfOk, IfErr, OnOk};
 ghost use Rattle.vs_base.specs.Number.{signed_reading};
 ghost use Rattle.elab_parts.specs.Paths.{inner_path, turn_name, block_number};
 

@@ -64,11 +64,11 @@ module _ (env : Environment) where
   decided_in i = decided (tests_in (out-Item i)) (last_in (out-Item i))
 
   -- where the block is itself one `if` without `begin`, that one decides
-  pub data Lands : Decision → Decision → Type 0 where
-    Fails : (fault : WalkFault) → Lands (Err fault) (Err fault)
-    NoBlock : Lands (Ok None) (Ok None)
-    Stays : (block : GenBlock) → if_in (out-GenBlock block) ≡ None → Lands (Ok (Some block)) (Ok (Some block))
-    GoesOn : (block : GenBlock) (inner : Item) (d : Decision) → if_in (out-GenBlock block) ≡ Some inner → Lands (decided_in inner) d → Lands (Ok (Some block)) d
+  pub data Taken : Decision → Decision → Type 0 where
+    Fails : (fault : WalkFault) → Taken (Err fault) (Err fault)
+    NoBlock : Taken (Ok None) (Ok None)
+    Stays : (block : GenBlock) → if_in (out-GenBlock block) ≡ None → Taken (Ok (Some block)) (Ok (Some block))
+    GoesOn : (block : GenBlock) (inner : Item) (d : Decision) → if_in (out-GenBlock block) ≡ Some inner → Taken (decided_in inner) d → Taken (Ok (Some block)) d
 
 -- what a call answers, the block behind its reference
 abbrev pub answered : Result (Option (Bor GenBlock)) WalkFault → Decision

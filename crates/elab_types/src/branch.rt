@@ -19,7 +19,7 @@ pub fn block_taken<'t>(
     scope: &ScopeView<'_>,
     item: &'t Item,
 ) -> Result<Option<&'t GenBlock>, WalkFault>
-    ensures { spec.Lands (environment scope.now) (spec.decided_in (environment scope.now) item.now) (spec.answered result) }
+    ensures { spec.Taken (environment scope.now) (spec.decided_in (environment scope.now) item.now) (spec.answered result) }
 {
     match item {
         Item::If {
@@ -49,7 +49,7 @@ fn in_branches<'t>(
     branches: &'t [ItemBranch],
 ) -> Option<Result<Option<&'t GenBlock>, WalkFault>>
     ensures passed { result ≡ None → (more : List spec.Guarded) (last : Option Block) → spec.decided (environment scope.now) (map spec.branch branches.now ++ more) last ≡ spec.decided (environment scope.now) more last }
-    ensures decided { IfSome result (λ answer. (more : List spec.Guarded) (last : Option Block) → spec.Lands (environment scope.now) (spec.decided (environment scope.now) (map spec.branch branches.now ++ more) last) (spec.answered answer)) }
+    ensures decided { IfSome result (λ answer. (more : List spec.Guarded) (last : Option Block) → spec.Taken (environment scope.now) (spec.decided (environment scope.now) (map spec.branch branches.now ++ more) last) (spec.answered answer)) }
 {
     for branch in branches {
         match holds(scope, &branch.test.test) {
@@ -67,7 +67,7 @@ fn block_in<'t>(
     scope: &ScopeView<'_>,
     block: &'t GenBlock,
 ) -> Result<Option<&'t GenBlock>, WalkFault>
-    ensures { spec.Lands (environment scope.now) (Ok (Some block.now)) (spec.answered result) }
+    ensures { spec.Taken (environment scope.now) (Ok (Some block.now)) (spec.answered result) }
 {
     match block {
         GenBlock::Item(item) => match item.get() {

@@ -19,8 +19,8 @@
 //!   variable is a constant with the value of the turn.
 //! - Of a generate `if` the first test that holds decides (27.5): [`block_taken`].
 //!
-//! The definitions stand in specs/, over those of expressions in `sv_expr`, a file a subject. Of the branch that is taken nothing is
-//! said but that the calls are safe and end.
+//! The definitions stand in specs/, over those of expressions in `sv_expr`, a file a subject: `Packed.antt` and `Word.antt`, `Memory.antt`,
+//! `Port.antt`, `Parameter.antt`, `Value.antt`, `Turns.antt`, and `Branch.antt` for the block of an `if`.
 //!
 //! # Cost
 //!

@@ -1,6 +1,6 @@
 //! What connections read and write (IEEE 1800-2017 23.3.3).
 
-use crate::given::Given;
+use elab_parts::Given;
 use rtl_ir::{Expr, ExprNode, Place, Width};
 use rtl_lower::{
     FlatFault, Here, assigned, connected_place, kind_of, kind_of_name, named, of_declared, target,
@@ -8,15 +8,15 @@ use rtl_lower::{
 };
 use sqlite_items::Items;
 use sv_expr::Declared;
-use sv_tree::Token;
+use sv_tree::{Connection, Token};
+use sv_walk::first_token;
 use vs_base::Origin;
 
-/// What an output is connected to: the place, how many bits it has, and where the process stands.
+/// What an output is connected to: the place, and how many bits it has.
 #[derive(Drop)]
 pub struct Connected {
     pub place: Place,
     pub width: Width,
-    pub at: Origin,
 }
 
 /// The value of a name that is assigned to so many bits.
@@ -40,19 +40,35 @@ pub fn port_value(port: Declared, width: Width) -> Expr {
     }
 }
 
+/// The place of the process of a connection: that of its dot where it is by name, or else of the first token of the
+/// expression. `None`: nothing is connected.
+pub fn process_at(given: Given<'_>, named: Option<&Connection>) -> Option<Origin> {
+    match given {
+        Given::Nothing => None,
+        Given::Value(expr) => match named {
+            Some(connection) => Some(connection.dot.at),
+            None => Some(first_token(expr).at),
+        },
+        Given::Same(name) => match named {
+            Some(connection) => Some(connection.dot.at),
+            None => Some(name.at),
+        },
+    }
+}
+
 /// What an output is connected to, if to anything.
 pub fn connection(given: Given<'_>, here: &Here<'_>) -> Result<Option<Connected>, FlatFault> {
     match given {
         Given::Nothing => Ok(None),
-        Given::Value(expr, at) => {
+        Given::Value(expr) => {
             let width = kind_of(expr, here)?.width;
             let place = connected_place(expr, here)?;
-            Ok(Some(Connected { place, width, at }))
+            Ok(Some(Connected { place, width }))
         }
-        Given::Same(name, at) => {
+        Given::Same(name) => {
             let width = kind_of_name(name, here)?.width;
             let place = named_place(name, here)?;
-            Ok(Some(Connected { place, width, at }))
+            Ok(Some(Connected { place, width }))
         }
     }
 }

@@ -4,13 +4,13 @@ ghost use Rattle.rtl_flat.specs.Imports as imports;
 ghost use Rattle.rtl_flat.specs.Laid.{VarStands, MemStands, ScopeByScope, flat_scope_of, var_scope, mem_scope};
 ghost use Rattle.rtl_flat.specs.Ports as ports;
 
-use crate::given::Places;
 use crate::imports::{flat_imports, imports_in, number_of};
 use crate::ports::{module_named, top_ports};
 use crate::processes::{Lowering, import_denoted};
 use crate::text::copied;
 use crate::variables::{Variables, declarations_of, laid_down};
 use crate::walk::Walk;
+use elab_parts::Places;
 use rtl_ir::{Design, FlatScope, Import, Port, Proc};
 use rtl_lower::FlatFault;
 use sqlite_items::Items;

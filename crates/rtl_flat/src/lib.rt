@@ -50,7 +50,6 @@
 
 mod connect;
 mod design;
-mod given;
 mod imports;
 mod ports;
 mod processes;

@@ -1,11 +1,11 @@
 //! The processes of all scopes, in elaboration order.
 
-use crate::connect::{connection, named_value, port_value};
-use crate::given::{Given, Places};
+use crate::connect::{connection, named_value, port_value, process_at};
 use crate::imports::number_of;
 use crate::ports::{is_input, ports_of};
 use crate::variables::{Extent, is_wire};
 use crate::walk::{Pass, Present};
+use elab_parts::{Given, List, Places, list_of};
 use rtl_ir::{Event, Expr, Mem, Place, Proc, ProcKind, Stmt, Var};
 use rtl_lower::{
     FlatFault, assigned_value, kind_of_import, of_declared, place_of, statement, target_kind,
@@ -65,9 +65,10 @@ impl Pass for Lowering<'_> {
         let Some(list) = ports_of(child) else {
             return Ok(());
         };
-        self.places.fill(connections);
-        self.connect_ports(present, list, connections)?;
-        self.places.clear(connections);
+        let connected = list_of(connections);
+        self.places.fill(connected);
+        self.connect_ports(present, list, connected)?;
+        self.places.clear(connected);
         Ok(())
     }
 
@@ -300,20 +301,20 @@ impl Lowering<'_> {
         &mut self,
         present: &Present<'_>,
         list: &CommaList<Port>,
-        connections: &Connections,
+        connected: List<'_>,
     ) -> Result<(), FlatFault> {
         let names = present.inside.names;
         let mut place = PortPlace {
             number: 0,
             input: is_input(names, true, list.first.direction),
         };
-        self.connect_port(present, list.first.name, place, connections)?;
+        self.connect_port(present, list.first.name, place, connected)?;
         for joined in list.more.as_slice() {
             place = PortPlace {
                 number: place.number.saturating_add(1),
                 input: is_input(names, place.input, joined.item.direction),
             };
-            self.connect_port(present, joined.item.name, place, connections)?;
+            self.connect_port(present, joined.item.name, place, connected)?;
         }
         Ok(())
     }
@@ -324,17 +325,20 @@ impl Lowering<'_> {
         present: &Present<'_>,
         name: Token,
         place: PortPlace,
-        connections: &Connections,
+        connected: List<'_>,
     ) -> Result<(), FlatFault> {
         let first = self.extent(present.entered)?.first_var;
         let port = declared_var(self.vars, first.saturating_add(place.number))?;
         let given = self
             .places
-            .given(connections, name.name, place.number as usize);
+            .given(connected, name.name, place.number as usize);
+        let Some(at) = process_at(given, self.places.named(connected, name.name)) else {
+            return Ok(());
+        };
         if place.input {
-            return self.connect_input(present, port, given);
+            return self.connect_input(present, port, given, at);
         }
-        self.connect_output(present, port, given)
+        self.connect_output(present, port, given, at)
     }
 
     /// Connects an input: the port is assigned what is given.
@@ -343,16 +347,17 @@ impl Lowering<'_> {
         present: &Present<'_>,
         port: Declared,
         given: Given<'_>,
+        at: Origin,
     ) -> Result<(), FlatFault> {
         let here = present.inside.here();
         let width = of_declared(port).width;
         match given {
             Given::Nothing => Ok(()),
-            Given::Value(expr, at) => {
+            Given::Value(expr) => {
                 let value = assigned_value(expr, &here, width)?;
                 self.put_assignment(whole_variable(port.item, &here)?, value, at)
             }
-            Given::Same(name, at) => {
+            Given::Same(name) => {
                 let value = named_value(name, &here, width)?;
                 self.put_assignment(whole_variable(port.item, &here)?, value, at)
             }
@@ -365,13 +370,14 @@ impl Lowering<'_> {
         present: &Present<'_>,
         port: Declared,
         given: Given<'_>,
+        at: Origin,
     ) -> Result<(), FlatFault> {
         let here = present.inside.here();
         let Some(connected) = connection(given, &here)? else {
             return Ok(());
         };
         let value = port_value(port, connected.width);
-        self.put_assignment(connected.place, value, connected.at)
+        self.put_assignment(connected.place, value, at)
     }
 }
 

@@ -1,12 +1,11 @@
 //! How the types and values of parts make those of the whole.
 
-ghost use Rattle.std.specs.Prelude.{◌≡◌, ◌+◌, ◌≤◌, ◌<ℤ◌, ◌≤ℤ◌, pos, neg_ℤ, ◌-ℤ◌, ◌*ℤ◌, ◌^◌, map, true, None};
+ghost use Rattle.std.specs.Prelude.{◌≡◌, ◌+◌, ◌≤◌, ◌<ℤ◌, ◌≤ℤ◌, pos, neg_ℤ, ◌*ℤ◌, ◌^◌, map, true, None};
 ghost use Rattle.vs_base.specs.Number.{reading as number_reading};
 ghost use Rattle.vs_base.specs.Operators.{joined as bits_joined, repeated as times_repeated, truth as bit_of};
 ghost use Rattle.sv_tree.specs.Spelling.{symbol_of};
 ghost use Rattle.sv_sem.specs.Types.{in_context as number_in_context};
 ghost use Rattle.sv_expr.specs.Bound.{IsWidth, is_width as is_type_width, whole_part, ranged as ranged_type};
-ghost use Rattle.sv_expr.specs.Operator.{combined as combined_kind};
 ghost use Rattle.sv_expr.specs.Meaning.{combined_typed, prefix_kind as prefixed_kind, system_kind, system_value as system_number, part_width};
 ghost use Rattle.sv_expr.specs.Walk.{at_width as number_at_width, joined_typed, times_number, times_parts, with_choice, with_select};
 

@@ -29,8 +29,8 @@
 //!
 //! No call takes memory. A walk over types goes over the expression once. A walk over values asks for the type of an
 //! operand only where that is taken alone, so its time is at most the size times the depth of operands that stand alone
-//! one in another. The exception: a replication in the count of a replication, other than as the whole count or in parentheses
-//! there, is evaluated at least twice for each such level.
+//! one in another. The exception: a replication in the count of a replication is evaluated at least twice for each such
+//! level, unless it is the whole count, with or without parentheses round it.
 //! The stack is as deep as the tree: no operator, prefix or `?:` of a list adds to it.
 //!
 //! ```text

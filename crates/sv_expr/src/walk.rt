@@ -4,10 +4,9 @@
 //! A walk over types goes into every part, so that it finds each fault. A walk over values is given a context, and
 //! asks for the type of an operand only where that stands alone.
 
-ghost use Rattle.std.specs.Prelude.{◌≡◌, ◌≤◌, ◌+◌, fold, map, IfSome};
+ghost use Rattle.std.specs.Prelude.{◌≡◌, ◌≤◌, map, IfSome};
 ghost use Rattle.vs_base.specs.Number.{reading};
 ghost use Rattle.sv_tree.specs.Spelling.{symbol_of};
-ghost use Rattle.sv_sem.specs.Types.{in_context as number_in_context};
 ghost use Rattle.sv_expr.specs.Bound.{IsWidth};
 ghost use Rattle.sv_expr.specs.Environment.{environment};
 ghost use Rattle.sv_expr.specs.Meaning.{alone as alone_number, own_reading, symbol as symbol_in, meaning_of, named as named_meaning, select_typed as select_type, args_fault as args_first_fault};

@@ -10,8 +10,8 @@ use Rattle.sv_tree.specs.TreeRead.{all_of}
 use Rattle.sv_tree.specs.TreeExpr.{ExprRead, expr_read, read_expr, choice_read}
 use Rattle.sv_tree.specs.TreeExprLaws.{choice-roll}
 use Rattle.sv_walk.specs.First.{BeginsWith}
-use Rattle.sv_walk.specs.Targets.{is_target}
-use Rattle.sv_walk.specs.TargetLaws.{step_targets, target_step-roll}
+use Rattle.sv_walk.specs.Targets.{is_target, step_targets}
+use Rattle.sv_walk.specs.TargetLaws.{target_step-roll}
 
 pub first_operator : (marks : List Token) (operand : ExprRead) (t : Token) → slice_get marks 0 ≡ Some t → BeginsWith t (read_expr (Expr-F.Prefix marks operand)).text
 first_operator [] operand t none = absurd (cc)

@@ -84,7 +84,7 @@ module _ (names : List (List ℕ)) where
   abbrev pub is_spelled : Token → List ℕ → Bool
   is_spelled t text = bytes_eq (get_or names t.name.0 []) text
 
-  -- its argument needs a constant (20.8.1)
+  -- in this subset its argument needs a constant (20.8.1)
   abbrev pub is_ceiling_log : Token → Bool
   is_ceiling_log name = is_spelled name (codes "$clog2")
 

@@ -17,7 +17,7 @@ use Rattle.sv_tree.specs.declared.tree.stmt.Lvalue.TheOpen.{Lvalue-F}
 use Rattle.sv_tree.specs.declared.tree.stmt.Lvalue.TheVariants as lvalue
 use Rattle.sv_tree.specs.declared.tree.stmt.LvalueStep.{LvalueStep, roll-LvalueStep}
 use Rattle.sv_walk.specs.Events.{Event}
-use Rattle.sv_walk.specs.Targets.{lvalue_layer, lvalue_step_layer, lvalue_events, lvalue_step_events, is_target_layer, step_target_layer, is_target, is_step_target}
+use Rattle.sv_walk.specs.Targets.{lvalue_layer, lvalue_step_layer, lvalue_events, lvalue_step_events, is_target_layer, step_target_layer, is_target, is_step_target, step_targets}
 
 module _ (names : List (List ℕ)) where
   pub lvalue-Name : (name : Token) (selects : List Select) → lvalue_events names (lvalue.Name name selects) ≡ lvalue_layer names (Lvalue-F.Name name selects)
@@ -33,9 +33,6 @@ module _ (names : List (List ℕ)) where
   lvalue_step-roll comma target = fold-roll-LvalueStep (List Event) (List Event) (lvalue_layer names) (lvalue_step_layer names) (record { comma = comma; target = target })
 
 -- ---- which expressions may be written
-
-abbrev pub step_targets : List Step → Bool
-step_targets more = list_all (λ part. part) (map is_step_target more)
 
 pub target-Decimal : (t : Token) → is_target (expr.Decimal t) ≡ false
 unfolding is_target is_step_target

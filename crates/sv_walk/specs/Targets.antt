@@ -1,5 +1,5 @@
 -- What a walk over what is written meets, and which expressions may be written (IEEE 1800-2017 A.8.5).
-use Rattle.std.specs.Prelude.{ℕ, Bool, true, false, ◌&&◌, List, ◌∷◌, ◌++◌}
+use Rattle.std.specs.Prelude.{ℕ, Bool, true, false, ◌&&◌, List, ◌∷◌, ◌++◌, map}
 use Rattle.std.specs.List.{flat_map, list_all}
 use Rattle.sv_tree.specs.declared.tree.expr.Expr.{Expr}
 use Rattle.sv_tree.specs.declared.tree.expr.Step.{Step}
@@ -42,3 +42,7 @@ is_target = folds.fold-Expr (Unit {0}) Bool (Unit {0}) (Unit {0}) Bool (λ x. tt
 
 unfoldable pub is_step_target : Step → Bool
 is_step_target = folds.fold-Step (Unit {0}) Bool (Unit {0}) (Unit {0}) Bool (λ x. tt) is_target_layer (λ x. tt) (λ x. tt) step_target_layer
+
+-- those of a brace after the first
+abbrev pub step_targets : List Step → Bool
+step_targets more = list_all (λ part. part) (map is_step_target more)

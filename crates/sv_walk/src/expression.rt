@@ -7,7 +7,7 @@ ghost use Rattle.sv_walk.specs.Tells.{Tells};
 use crate::visit::Visit;
 use sv_tree::{Args, Choice, Expr, Names, Select, Step, Token};
 
-/// The system function whose argument needs a constant (IEEE 1800-2017 20.8.1).
+/// The system function whose argument needs a constant in this subset (IEEE 1800-2017 20.8.1).
 const CLOG2: &[u8] = b"$clog2";
 
 /// The mark of a part select both of whose ends need a constant (IEEE 1800-2017 11.5.1).

@@ -11,8 +11,8 @@
 //! # Where a constant is needed
 //!
 //! The caller says whether the whole has to be constant. Within it these have to be: the count of a replication
-//! (IEEE 1800-2017 11.4.12.1), the argument of `$clog2` (20.8.1), both ends of a part select `[m:l]`, and the width
-//! of an indexed one, `[e +: c]` and `[e -: c]` (11.5.1). What stands in such a place is told with `constant` set,
+//! (IEEE 1800-2017 11.4.12.1), both ends of a part select `[m:l]`, the width
+//! of an indexed one, `[e +: c]` and `[e -: c]` (11.5.1), and in this subset the argument of `$clog2` (20.8.1). What stands in such a place is told with `constant` set,
 //! also what stands deeper in it.
 //!
 //! # Terms

@@ -4,7 +4,7 @@ ghost use Rattle.std.specs.Prelude.{◌≡◌, map};
 ghost use Rattle.std.specs.List.{flat_map};
 ghost use Rattle.sv_walk.specs.Events.{step_part, written_events, each_written};
 ghost use Rattle.sv_walk.specs.Targets.{lvalue_events, lvalue_step_events, is_target as may_be_written};
-ghost use Rattle.sv_walk.specs.TargetLaws.{step_targets};
+ghost use Rattle.sv_walk.specs.Targets.{step_targets};
 ghost use Rattle.sv_walk.specs.Tells.{Tells};
 
 use crate::expression::visit_selects;

@@ -1,9 +1,8 @@
 use Rattle.std.proofs.Common.{◌≡◌, Bool, true, false, suc, drop, sym, ap, ◌∙◌, add-one}
 use Rattle.std.specs.Prelude.{◌&&◌}
-use Rattle.sv_walk.specs.Targets.{is_target}
+use Rattle.sv_walk.specs.Targets.{is_target, step_targets}
 use Rattle.sv_walk.specs.TargetLaws as law
 use Rattle.sv_tree.specs.declared.tree.expr.Expr.{Expr}
-use Rattle.sv_walk.specs.TargetLaws.{step_targets}
 use Rattle.sv_walk.proofs.Firsts.{targets_from}
 use Rattle.sv_walk.proofs.target.+target.Goals as goal
 

@@ -1,5 +1,5 @@
 use Rattle.std.proofs.Common.{◌≡◌, drop}
-use Rattle.sv_walk.specs.TargetLaws.{step_targets}
+use Rattle.sv_walk.specs.Targets.{step_targets}
 use Rattle.sv_walk.proofs.target.+target.Given as goal
 
 abbrev pub invariant-are_targets-loop-step : goal.invariant-are_targets-loop-step

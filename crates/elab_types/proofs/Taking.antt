@@ -1,4 +1,4 @@
--- How a generate `if` lands where its tests say.
+-- What a generate `if` takes by its tests.
 use Rattle.std.proofs.Common.{◌≡◌, ◌<◌, ◌⊎◌, inl, inr, ℕ, suc, Bool, false, List, [], ◌∷◌, ◌++◌, length, drop, get_or, map, Option, Some, None, unwrap_or, Ok, Err, refl, sym, ap, ◌∙◌, subst}
 use Rattle.std.proofs.Math.Seq.{drop-cons}
 use Rattle.std.proofs.lemmas.Option.{none-some}
@@ -16,7 +16,7 @@ use Rattle.sv_expr.specs.declared.fault.WalkFault.{WalkFault}
 use Rattle.sv_expr.specs.Environment.{Environment}
 use Rattle.sv_expr.specs.Meaning.{FirstFault}
 use Rattle.elab_types.specs.Turns.{holds}
-use Rattle.elab_types.specs.Branch.{Guarded, Layer, Decision, Lands, Fails, NoBlock, Stays, GoesOn, branch, tests_in, last_in, if_of, if_in, by_test, decided, decided_in}
+use Rattle.elab_types.specs.Branch.{Guarded, Layer, Decision, Taken, Fails, NoBlock, Stays, GoesOn, branch, tests_in, last_in, if_of, if_in, by_test, decided, decided_in}
 
 -- ---- the forms of an item
 
@@ -68,8 +68,8 @@ pub at_fault : {f : Option WalkFault} {fault : WalkFault} (h : Bool) (block : Ge
 at_fault h block later is = ap (λ f. by_test f h block later) (sym is)
 
 module _ (env : Environment) where
-  pub land : {d e a : Decision} → d ≡ e → Lands env e a → Lands env d a
-  land {a = a} is l = subst (λ d. Lands env d a) (sym is) l
+  pub taken_by : {d e a : Decision} → d ≡ e → Taken env e a → Taken env d a
+  taken_by {a = a} is l = subst (λ d. Taken env d a) (sym is) l
 
   pub decided_if : {i : Item} (branches : List ItemBranch) (test : Test) (body : GenBlock) → i ≡ item.If branches test body
       → decided_in env i ≡ decided env (map branch branches ++ record { test = test.test; block = body } ∷ []) None
@@ -90,12 +90,12 @@ module _ (env : Environment) where
   reached branches k x more last within is so =
       so ∙ ap (λ xs. decided env (map branch xs ++ more) last) (drop-cons branches k x within ∙ ap (λ y. y ∷ drop (suc k) branches) (sym is))
 
-  -- it lands in one place
-  lands_once : {d a b : Decision} → Lands env d a → Lands env d b → a ≡ b
-  lands_once (Fails fault) (Fails _) = refl
-  lands_once NoBlock NoBlock = refl
-  lands_once (Stays block _) (Stays _ _) = refl
-  lands_once (Stays block whole) (GoesOn _ inner d is there) = absurd (none-some inner (sym whole ∙ is))
-  lands_once (GoesOn block inner d is there) (Stays _ whole) = absurd (none-some inner (sym whole ∙ is))
-  lands_once {b = b} (GoesOn block inner d is there) (GoesOn _ other e so here) =
-      lands_once there (subst (λ i. Lands env (decided_in env i) b) (ap (λ o. unwrap_or o inner) (sym so ∙ is)) here)
+  -- one thing alone is taken
+  taken_once : {d a b : Decision} → Taken env d a → Taken env d b → a ≡ b
+  taken_once (Fails fault) (Fails _) = refl
+  taken_once NoBlock NoBlock = refl
+  taken_once (Stays block _) (Stays _ _) = refl
+  taken_once (Stays block whole) (GoesOn _ inner d is there) = absurd (none-some inner (sym whole ∙ is))
+  taken_once (GoesOn block inner d is there) (Stays _ whole) = absurd (none-some inner (sym whole ∙ is))
+  taken_once {b = b} (GoesOn block inner d is there) (GoesOn _ other e so here) =
+      taken_once there (subst (λ i. Taken env (decided_in env i) b) (ap (λ o. unwrap_or o inner) (sym so ∙ is)) here)
