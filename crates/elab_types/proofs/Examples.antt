@@ -1,21 +1,28 @@
 -- Types, addresses, turns and branches of small declarations.
-use Rattle.std.specs.Prelude.{◌≡◌, true, false, [], Some, None, Ok, Err, pos, neg_ℤ, refl}
+use Rattle.std.proofs.Common.{◌≡◌, true, false, [], ◌∷◌, Option, Some, None, Ok, Err, pos, neg_ℤ, refl, ap, ◌∙◌}
 use Rattle.vs_base.specs.declared.origin.Origin.{Origin}
 use Rattle.vs_base.specs.declared.types.ValueType.{ValueType}
 use Rattle.vs_base.specs.Number.{kept}
 use Rattle.sv_tree.specs.declared.symbol.Symbol.TheVariants as sym
 use Rattle.sv_tree.specs.declared.token.Token.{Token}
-use Rattle.sv_tree.specs.declared.tree.item.GenBlock.{GenBlock}
+use Rattle.sv_tree.specs.declared.tree.item.GenBlock.{GenBlock, out-GenBlock}
+use Rattle.sv_tree.specs.declared.tree.item.GenBlock.TheOpen.{Item-F}
+use Rattle.sv_tree.specs.declared.tree.item.Item.{Item}
+use Rattle.sv_tree.specs.declared.tree.item.ItemBranch.{ItemBranch}
+use Rattle.sv_tree.specs.declared.tree.stmt.Test.{Test}
+use Rattle.sv_expr.specs.Environment.{Environment}
+use Rattle.sv_expr.specs.Meaning.{FirstFault}
 use Rattle.sv_expr.specs.declared.fault.WalkFault.{WalkFault}
 use Rattle.sv_expr.specs.declared.fault.WalkFault.TheVariants.{TooWide, BadRange}
 use Rattle.elab_types.specs.declared.kinds.Direction.TheVariants.{Output}
-use Rattle.elab_types.specs.Branch.{Decision, by_test}
+use Rattle.elab_types.specs.Branch.{Guarded, Taken, Stays, GoesOn, branch, tests_in, last_in, if_in, by_test, decided, decided_in}
 use Rattle.elab_types.specs.Memory as memory
 use Rattle.elab_types.specs.Packed as packed
 use Rattle.elab_types.specs.Parameter.{OfValue, Full, converted}
 use Rattle.elab_types.specs.Port as port
-use Rattle.elab_types.specs.Turns.{by_one}
+use Rattle.elab_types.specs.Turns.{by_one, holds}
 use Rattle.elab_types.specs.Word.{sized, fixed_width, keeps_sign, has_sign, says_signed, unless_void}
+use Rattle.elab_types.proofs.Taking.{not_held, at_fault, taken_by}
 
 abbrev at : Origin
 at = record { file = 0; line = 1; col = 1 }
@@ -114,13 +121,41 @@ one_up = refl
 one_down_from_0 : by_one sym.MinusMinus (kept 32 0) ≡ kept 32 4294967295
 one_down_from_0 = refl
 
--- ---- a generate `if`: a fault before what its test would be, a test that does not hold leaves it to the next
+-- ---- a generate `if`: the tests of `if (x) A else if (y) B` and of `if (x) A else if (y) B else C`
 
-fault_first : (fault : WalkFault) (block : GenBlock) (later : Decision) → by_test (Some fault) true block later ≡ Err fault
-fault_first fault block later = refl
+without_else : (x : ItemBranch) (y : Test) (b : GenBlock) → tests_in (Item-F.If (x ∷ []) y b) ≡ branch x ∷ record { test = y.test; block = b } ∷ []
+without_else x y b = refl
 
-holds_first : (block : GenBlock) (later : Decision) → by_test None true block later ≡ Ok (Some block)
-holds_first block later = refl
+no_last : (x : ItemBranch) (y : Test) (b : GenBlock) → last_in (Item-F.If (x ∷ []) y b) ≡ None
+no_last x y b = refl
 
-leaves_it : (block : GenBlock) (later : Decision) → by_test None false block later ≡ later
-leaves_it block later = refl
+with_else : (x y : ItemBranch) (c : GenBlock) → tests_in (Item-F.IfElse (x ∷ y ∷ []) c) ≡ branch x ∷ branch y ∷ []
+with_else x y c = refl
+
+last_block : (x y : ItemBranch) (c : GenBlock) → last_in (Item-F.IfElse (x ∷ y ∷ []) c) ≡ Some c
+last_block x y c = refl
+
+module _ (env : Environment) (a b : Guarded) where
+  fails : Guarded → Type 0
+  fails x = (None ≡ FirstFault env x.test) × (false ≡ holds env x.test)
+
+  -- of `if (0) A else if (1) B else C` it is B
+  second : (last : Option GenBlock) → fails a → FirstFault env b.test ≡ None → holds env b.test ≡ true → decided env (a ∷ b ∷ []) last ≡ Ok (Some b.block)
+  unfolding fails
+  second last one clean holds_b =
+      not_held a.block (decided env (b ∷ []) last) one.0 one.1 refl
+      ∙ ap (λ f. by_test f (holds env b.test) b.block (Ok last)) clean
+      ∙ ap (λ h. by_test None h b.block (Ok last)) holds_b
+
+  -- of `if (0) A else if (0) B else C` it is C, and without `else C` it is no block
+  third : (last : Option GenBlock) → fails a → fails b → decided env (a ∷ b ∷ []) last ≡ Ok last
+  unfolding fails
+  third last one other = not_held a.block (decided env (b ∷ []) last) one.0 one.1 refl ∙ not_held b.block (Ok last) other.0 other.1 refl
+
+  -- the fault of the first test is told, whatever the second one is
+  fault_first : (fault : WalkFault) (last : Option GenBlock) → Some fault ≡ FirstFault env a.test → decided env (a ∷ b ∷ []) last ≡ Err fault
+  fault_first fault last is = at_fault (holds env a.test) a.block (decided env (b ∷ []) last) is
+
+  -- of `if (1) if (0) X else Y` it is Y
+  inner : (g y : GenBlock) (i : Item) → if_in (out-GenBlock g) ≡ Some i → decided_in env i ≡ Ok (Some y) → if_in (out-GenBlock y) ≡ None → Taken env (Ok (Some g)) (Ok (Some y))
+  inner g y i is so whole = GoesOn g i (Ok (Some y)) is (taken_by env so (Stays y whole))

@@ -38,7 +38,7 @@ use Rattle.proc_cost.specs.CostLaws as cost_laws
 use Rattle.order_levels.specs.Settling.{InOrder, settling}
 use Rattle.logic_graph.specs.Reading.{edge_to}
 use Rattle.plan_types.specs.declared.plan.ValidPlan.{ValidPlan}
-use Rattle.plan_types.specs.OneTask.{groups_of, first_tasks, lists_of}
+use Rattle.plan_types.specs.OneTask.{groups_of, first_tasks, lists_of, numbers_of}
 use Rattle.model_build.specs.declared.import.ImportUse.{ImportUse}
 use Rattle.model_build.specs.Names.{bit_name}
 use Rattle.model_build.specs.Drivers.{OneDriver, TwoDrivers}
@@ -307,15 +307,21 @@ all_four = node_of.Body 1 ∷ node_of.Commit 1 ∷ node_of.Comb 2 ∷ node_of.Co
 
 -- after a clock the same follows the body and the commit, all as the one task of thread 0
 clocks : (plan : ValidPlan) → IsPlan procs the_codes (1 ∷ 0 ∷ []) part.Clocked plan
-    → (plan.nodes ≡ all_four) × (plan.graph.costs ≡ 1 ∷ 2 ∷ 1 ∷ 1 ∷ []) × (plan.groups ≡ (0 ∷ 1 ∷ 2 ∷ 3 ∷ []) ∷ []) × (plan.tasks ≡ record { thread = 0; start = 0 } ∷ []) × (plan.threads ≡ (0 ∷ []) ∷ [])
+    → (plan.nodes ≡ all_four) × (plan.graph.costs ≡ 1 ∷ 2 ∷ 1 ∷ 1 ∷ []) × (plan.groups ≡ (0 ∷ 1 ∷ 2 ∷ 3 ∷ []) ∷ []) × (plan.tasks ≡ record { thread = 0; start = 0 } ∷ []) × (plan.order ≡ 0 ∷ []) × (plan.threads ≡ (0 ∷ []) ∷ [])
 clocks plan is = (
   is.nodes,
   is.costs ∙ ap (map (node_cost procs the_codes)) is.nodes,
   is.groups ∙ ap (λ (nodes : List Node). groups_of (length nodes)) is.nodes,
   is.tasks ∙ ap (λ (nodes : List Node). first_tasks (length nodes)) is.nodes,
+  is.placement ∙ ap (λ (nodes : List Node). numbers_of (length nodes)) is.nodes,
   is.threads ∙ ap (λ (nodes : List Node). lists_of (length nodes)) is.nodes,
 )
 
 -- a part without nodes has no group and no task, and one thread with nothing to do
-nothing_to_do : (plan : ValidPlan) → IsPlan [] [] [] part.Clocked plan → (plan.groups ≡ []) × (plan.threads ≡ [] ∷ [])
-nothing_to_do plan is = (is.groups ∙ ap (λ (nodes : List Node). groups_of (length nodes)) is.nodes, is.threads ∙ ap (λ (nodes : List Node). lists_of (length nodes)) is.nodes)
+nothing_to_do : (plan : ValidPlan) → IsPlan [] [] [] part.Clocked plan → (plan.groups ≡ []) × (plan.tasks ≡ []) × (plan.order ≡ []) × (plan.threads ≡ [] ∷ [])
+nothing_to_do plan is = (
+  is.groups ∙ ap (λ (nodes : List Node). groups_of (length nodes)) is.nodes,
+  is.tasks ∙ ap (λ (nodes : List Node). first_tasks (length nodes)) is.nodes,
+  is.placement ∙ ap (λ (nodes : List Node). numbers_of (length nodes)) is.nodes,
+  is.threads ∙ ap (λ (nodes : List Node). lists_of (length nodes)) is.nodes,
+)
