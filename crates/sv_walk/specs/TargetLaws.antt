@@ -1,7 +1,6 @@
 -- The equations of what is met in what is written, and of which expressions may be written, one for each form.
 use Rattle.std.proofs.Common.{◌≡◌, ℕ, Bool, true, false, List, map, sym, ap, ◌∙◌}
 use Rattle.std.specs.Prelude.{◌&&◌}
-use Rattle.std.specs.List.{list_all}
 use Rattle.sv_tree.specs.declared.token.Token.{Token}
 use Rattle.sv_tree.specs.declared.tree.expr.Expr.{Expr}
 use Rattle.sv_tree.specs.declared.tree.expr.Args.{Args}
