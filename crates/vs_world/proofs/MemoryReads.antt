@@ -2,7 +2,8 @@
 use Rattle.std.proofs.Common.{◌≡◌, ℕ, ◌-◌, ◌<◌, ◌≤◌, min, Bool, true, false, List, length, take, drop, Option, Some, None, sym, ap, ◌∙◌, inr, arith}
 use Rattle.std.specs.Prelude.{◌||◌, is_none, if◌then◌else◌}
 use Rattle.vs_world.specs.declared.memory.Op.TheVariants.{Read}
-use Rattle.vs_world.specs.Outside.{ReadsAt, ReadCause, ReadCounts}
+use Rattle.vs_world.specs.Outside.{ReadsAt, ReadCause, OnlyReads}
+use Rattle.vs_world.specs.InMemory.{told_by}
 use Rattle.vs_world.specs.Memory.{Memory, is_planned, called, faulted, missed, is_read_failing, read_size, after_read}
 
 -- the read found the file
@@ -54,12 +55,15 @@ not_found m m1 name pass was none =
       missing = missing;
     }
 
-pub missed_cause : (m m2 : Memory) (name : List ℕ) → m2 ≡ missed (called Read m) → m.files name ≡ None → ReadCause (Some m.files) name m.faults m2.faults m.absent m2.absent
+pub missed_cause : (m m2 : Memory) (name : List ℕ) → m2 ≡ missed (called Read m) → m.files name ≡ None → ReadCause name (told_by m) (told_by m2)
 missed_cause m m2 name was missing = let absent = ap (λ (x : Memory). x.absent) was in inr (omega (arith, absent), missing)
 
-pub missed_counts : (m m2 : Memory) (name : List ℕ) → m2 ≡ missed (called Read m) → m.absent ≤ m2.absent → m.files name ≡ None → ReadCounts (Some m.files) name m.faults m2.faults m.absent m2.absent
-missed_counts m m2 name was later missing = let faults = ap (λ (x : Memory). x.faults) was in record {
+pub missed_rest : (m m2 : Memory) (name : List ℕ) → m2 ≡ missed (called Read m) → m.absent ≤ m2.absent → m.files name ≡ None → OnlyReads name (told_by m) (told_by m2)
+missed_rest m m2 name was later missing = let faults = ap (λ (x : Memory). x.faults) was in record {
   faults_later = omega (arith, faults);
   absent_later = later;
   only_missing = λ _. missing;
+  files_same = ap (λ (x : Memory). Some x.files) was;
+  written_same = ap (λ (x : Memory). Some x.written) was;
+  made_same = ap (λ (x : Memory). Some x.made) was;
 }

@@ -1,10 +1,10 @@
 -- Which world in memory a `MemWorld` is.
-use Rattle.std.specs.Prelude.{ℕ, List, [], ◌∷◌}
+use Rattle.std.specs.Prelude.{ℕ, List, [], ◌∷◌, Some}
 use Rattle.vs_world.specs.declared.memory.MemWorld.{MemWorld}
 use Rattle.vs_world.specs.declared.memory.Order.{Order}
 use Rattle.vs_world.specs.declared.memory.Order.TheVariants.{Neither, OnlyCalls, OnlyVcd, CallsThenVcd, VcdThenCalls}
 use Rattle.vs_world.specs.declared.world.Stream.TheVariants.{Calls, Vcd}
-use Rattle.vs_world.specs.Outside.{Made}
+use Rattle.vs_world.specs.Outside.{Made, Told}
 use Rattle.vs_world.specs.Memory.{Memory, file_of}
 
 -- the created pairs, by the order of creation and the two names
@@ -27,3 +27,7 @@ memory_of w = record {
   faults = w.faults;
   absent = w.absent;
 }
+
+-- it tells all
+abbrev pub told_by : Memory → Told
+told_by m = record { files = Some m.files; written = Some m.written; made = Some m.made; faults = m.faults; absent = m.absent }

@@ -36,6 +36,15 @@ abbrev pub IsMade : Stream → Made → Type 0
 IsMade stream [] = ⊥
 IsMade stream (m ∷ made) = (m.0 ≡ stream) ⊎ IsMade stream made
 
+-- what a world tells: its files, what was written and created so far, how many of its calls failed, and how many reads
+-- failed since there was no such file
+pub record Told : Type 0 where
+  pub files : Option Files
+  pub written : Option Written
+  pub made : Option Made
+  pub faults : ℕ
+  pub absent : ℕ
+
 -- a stream that may be written to, where it is told what was created
 abbrev pub IsOpen : Option Made → Stream → Type 0
 IsOpen told Out = Unit {0}
@@ -73,12 +82,30 @@ pub record ReadsAt (files : Files) (name : List ℕ) (at n : ℕ) (buf : List �
   pub within : n ≤ length bytes - at
   pub end : (n ≡ 0) ↔ (length bytes ≤ at)
 
--- why a read failed
-abbrev pub ReadCause : Option Files → List ℕ → ℕ → ℕ → ℕ → ℕ → Type 0
-ReadCause told name faults faults' absent absent' = Rose faults faults' ⊎ (Rose absent absent' × IsMissing told name)
+-- why a read of this name failed
+abbrev pub ReadCause : List ℕ → Told → Told → Type 0
+ReadCause name before now = Rose before.faults now.faults ⊎ (Rose before.absent now.absent × IsMissing before.files name)
 
--- the two counts did not fall, and the count of missing files became greater only for a missing file
-pub record ReadCounts (told : Option Files) (name : List ℕ) (faults faults' absent absent' : ℕ) : Type 0 where
-  pub faults_later : faults ≤ faults'
-  pub absent_later : absent ≤ absent'
-  pub only_missing : absent < absent' → IsMissing told name
+-- a call that only reads the file of this name: the counts did not fall, that of missing files became greater only for a
+-- missing file, and the rest is as it was
+pub record OnlyReads (name : List ℕ) (before now : Told) : Type 0 where
+  pub faults_later : before.faults ≤ now.faults
+  pub absent_later : before.absent ≤ now.absent
+  pub only_missing : before.absent < now.absent → IsMissing before.files name
+  pub files_same : now.files ≡ before.files
+  pub written_same : now.written ≡ before.written
+  pub made_same : now.made ≡ before.made
+
+-- a call that only writes to streams
+pub record OnlyWrites (before now : Told) : Type 0 where
+  pub later : before.faults ≤ now.faults
+  pub absent_same : now.absent ≡ before.absent
+  pub files_same : now.files ≡ before.files
+  pub made_same : now.made ≡ before.made
+
+-- a call that only creates files
+pub record OnlyCreates (before now : Told) : Type 0 where
+  pub later : before.faults ≤ now.faults
+  pub absent_same : now.absent ≡ before.absent
+  pub files_same : now.files ≡ before.files
+  pub written_same : now.written ≡ before.written

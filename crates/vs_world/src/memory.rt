@@ -279,19 +279,11 @@ impl MemWorld {
 impl World for MemWorld {
     ghost use Rattle.std.specs.Prelude.{◌≡◌, ◌≤◌, ◌<◌, ◌+◌, ◌++◌, ◌∷◌, [], Some, take, length, IfOk, OnOk, OnErr, IfSome, IsTrue, IsErr, ◌↔◌};
     ghost use Rattle.std.specs.Option.{option_map};
-    ghost use Rattle.vs_world.specs.Outside.{appended, IsOpen, IsCreatable, Rose, ReadsAt, ReadCause, ReadCounts};
+    ghost use Rattle.vs_world.specs.Outside.{appended, IsOpen, IsCreatable, Rose, ReadsAt, ReadCause, OnlyReads, OnlyWrites, OnlyCreates};
     ghost use Rattle.vs_world.specs.Memory.{is_read_failing, read_size, after_read, is_write_failing, write_size, after_write, is_create_failing, after_create};
-    ghost use Rattle.vs_world.specs.InMemory.{memory_of};
+    ghost use Rattle.vs_world.specs.InMemory.{memory_of, told_by};
 
-    ghost files = { λ w. Some (memory_of w).files };
-
-    ghost written = { λ w. Some (memory_of w).written };
-
-    ghost made = { λ w. Some (memory_of w).made };
-
-    ghost faults = { λ w. (memory_of w).faults };
-
-    ghost absent = { λ w. (memory_of w).absent };
+    ghost told = { λ w. told_by (memory_of w) };
 
     fn read(&mut self, name: &[u8], at: u64, buf: &mut [u8]) -> Result<usize, Fault>
         requires { 0 < length buf.old }
@@ -304,11 +296,8 @@ impl World for MemWorld {
         // The same as the trait says it.
         ensures bound { IfOk result (λ n. n ≤ length buf.old) }
         ensures bytes { IfOk result (λ n. ReadsAt (memory_of self.old).files name.now at n buf.new) }
-        ensures cause { OnErr result (ReadCause (Some (memory_of self.old).files) name.now (memory_of self.old).faults (memory_of self.new).faults (memory_of self.old).absent (memory_of self.new).absent) }
-        ensures counts { ReadCounts (Some (memory_of self.old).files) name.now (memory_of self.old).faults (memory_of self.new).faults (memory_of self.old).absent (memory_of self.new).absent }
-        ensures files { (memory_of self.new).files ≡ (memory_of self.old).files }
-        ensures written { (memory_of self.new).written ≡ (memory_of self.old).written }
-        ensures made { (memory_of self.new).made ≡ (memory_of self.old).made }
+        ensures cause { OnErr result (ReadCause name.now (told_by (memory_of self.old)) (told_by (memory_of self.new))) }
+        ensures rest { OnlyReads name.now (told_by (memory_of self.old)) (told_by (memory_of self.new)) }
     {
         if self.call(Op::Read) {
             return Err(self.failed());
@@ -330,10 +319,7 @@ impl World for MemWorld {
         ensures ok { OnOk result ((memory_of self.new).made ≡ (memory_of self.old).made ++ (stream, name.now) ∷ []) }
         ensures err { OnErr result ((memory_of self.new).made ≡ (memory_of self.old).made) }
         ensures cause { OnErr result (Rose (memory_of self.old).faults (memory_of self.new).faults) }
-        ensures later { (memory_of self.old).faults ≤ (memory_of self.new).faults }
-        ensures absent { (memory_of self.new).absent ≡ (memory_of self.old).absent }
-        ensures files { (memory_of self.new).files ≡ (memory_of self.old).files }
-        ensures written { (memory_of self.new).written ≡ (memory_of self.old).written }
+        ensures rest { OnlyCreates (told_by (memory_of self.old)) (told_by (memory_of self.new)) }
     {
         if self.call(Op::Create) || name.len() > self.room {
             return Err(self.failed());
@@ -366,10 +352,7 @@ impl World for MemWorld {
         ensures ok { IfOk result (λ n. (memory_of self.new).written ≡ appended stream (take n bytes.now) (memory_of self.old).written) }
         ensures err { OnErr result ((memory_of self.new).written ≡ (memory_of self.old).written) }
         ensures cause { OnErr result (Rose (memory_of self.old).faults (memory_of self.new).faults) }
-        ensures later { (memory_of self.old).faults ≤ (memory_of self.new).faults }
-        ensures absent { (memory_of self.new).absent ≡ (memory_of self.old).absent }
-        ensures files { (memory_of self.new).files ≡ (memory_of self.old).files }
-        ensures made { (memory_of self.new).made ≡ (memory_of self.old).made }
+        ensures rest { OnlyWrites (told_by (memory_of self.old)) (told_by (memory_of self.new)) }
     {
         if self.call(Op::Write(stream)) {
             return Err(self.failed());

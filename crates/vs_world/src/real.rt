@@ -51,8 +51,8 @@ fn read_at<F: Read + Seek>(file: &mut F, at: u64, buf: &mut [u8]) -> Option<usiz
 impl<R: Files, O: Write, E: Write> RealWorld<R, O, E> {
     /// Nothing is created yet, and both counts are 0.
     pub fn new(files: R, out: O, errors: E) -> RealWorld<R, O, E>
-        ensures faults { ⟦<RealWorld<R, O, E> as World>⟧.faults result ≡ 0 }
-        ensures absent { ⟦<RealWorld<R, O, E> as World>⟧.absent result ≡ 0 }
+        ensures faults { (⟦<RealWorld<R, O, E> as World>⟧.told result).faults ≡ 0 }
+        ensures absent { (⟦<RealWorld<R, O, E> as World>⟧.told result).absent ≡ 0 }
     {
         RealWorld {
             files,
@@ -67,14 +67,14 @@ impl<R: Files, O: Write, E: Write> RealWorld<R, O, E> {
 
     /// How many calls failed, but for files that could not be opened for reading.
     pub fn fault_count(&self) -> u64
-        ensures { result ≡ ⟦<RealWorld<R, O, E> as World>⟧.faults self.now }
+        ensures { result ≡ (⟦<RealWorld<R, O, E> as World>⟧.told self.now).faults }
     {
         self.faults
     }
 
     /// How many reads failed since the file could not be opened for reading.
     pub fn absent_count(&self) -> u64
-        ensures { result ≡ ⟦<RealWorld<R, O, E> as World>⟧.absent self.now }
+        ensures { result ≡ (⟦<RealWorld<R, O, E> as World>⟧.told self.now).absent }
     {
         self.absent
     }
@@ -90,15 +90,7 @@ impl<R: Files, O: Write, E: Write> RealWorld<R, O, E> {
 }
 
 impl<R: Files, O: Write, E: Write> World for RealWorld<R, O, E> {
-    ghost files = { λ _. None };
-
-    ghost written = { λ _. None };
-
-    ghost made = { λ _. None };
-
-    ghost faults = { λ w. w.faults };
-
-    ghost absent = { λ w. w.absent };
+    ghost told = { λ w. record { files = None; written = None; made = None; faults = w.faults; absent = w.absent } };
 
     fn read(&mut self, name: &[u8], at: u64, buf: &mut [u8]) -> Result<usize, Fault> {
         let Some(mut file) = opened(&self.files, name) else {

@@ -1,7 +1,7 @@
 // Files and texts whole, over any world.
 ghost use Rattle.std.specs.Prelude.{◌≡◌, ◌≤◌, ◌<◌, length, take, IfOk, OnOk, OnErr, IfErr, IsErrOf};
 ghost use Rattle.std.specs.Option.{option_map};
-ghost use Rattle.vs_world.specs.Outside.{appended, IsOpen, Rose, ReadCause, ReadCounts, IsWhole, IsLonger};
+ghost use Rattle.vs_world.specs.Outside.{appended, IsOpen, Rose, ReadCause, OnlyReads, OnlyWrites, IsWhole, IsLonger};
 
 use crate::world::{Stream, World};
 use std::alloc::Global;
@@ -10,15 +10,12 @@ use thiserror::Error;
 /// Writes all bytes, or exactly the first n of them where it answers `Err(n)`, which comes only where the outside failed. It takes no
 /// memory, and makes no call where there are no bytes.
 pub fn write_all<W: World>(world: &mut W, stream: Stream, bytes: &[u8]) -> Result<(), u64>
-    requires { IsOpen (W.made world.old) stream }
-    ensures ok { OnOk result (W.written world.new ≡ option_map (appended stream bytes.now) (W.written world.old)) }
-    ensures err { IfErr result (λ n. (n < length bytes.now) × (W.written world.new ≡ option_map (appended stream (take n bytes.now)) (W.written world.old))) }
-    ensures cause { OnErr result (Rose (W.faults world.old) (W.faults world.new)) }
+    requires { IsOpen (W.told world.old).made stream }
+    ensures ok { OnOk result ((W.told world.new).written ≡ option_map (appended stream bytes.now) (W.told world.old).written) }
+    ensures err { IfErr result (λ n. (n < length bytes.now) × ((W.told world.new).written ≡ option_map (appended stream (take n bytes.now)) (W.told world.old).written)) }
+    ensures cause { OnErr result (Rose (W.told world.old).faults (W.told world.new).faults) }
     ensures no_call { length bytes.now ≡ 0 → world.new ≡ world.old }
-    ensures later { W.faults world.old ≤ W.faults world.new }
-    ensures absent { W.absent world.new ≡ W.absent world.old }
-    ensures files { W.files world.new ≡ W.files world.old }
-    ensures made { W.made world.new ≡ W.made world.old }
+    ensures rest { OnlyWrites (W.told world.old) (W.told world.new) }
 {
     let mut at = 0;
     'pieces: while at < bytes.len() {
@@ -55,14 +52,11 @@ pub fn read_all<W: World>(
     name: &[u8],
     limit: u64,
 ) -> Result<Vec<u8>, ReadFault>
-    ensures ok { IfOk result (λ v. IsWhole (W.files world.old) name.now v.items) }
+    ensures ok { IfOk result (λ v. IsWhole (W.told world.old).files name.now v.items) }
     ensures bound { IfOk result (λ v. length v.items ≤ limit) }
-    ensures cause { IsErrOf result ReadFault.World → ReadCause (W.files world.old) name.now (W.faults world.old) (W.faults world.new) (W.absent world.old) (W.absent world.new) }
-    ensures too_long { IsErrOf result ReadFault.TooLong → IsLonger (W.files world.old) name.now limit }
-    ensures counts { ReadCounts (W.files world.old) name.now (W.faults world.old) (W.faults world.new) (W.absent world.old) (W.absent world.new) }
-    ensures files { W.files world.new ≡ W.files world.old }
-    ensures written { W.written world.new ≡ W.written world.old }
-    ensures made { W.made world.new ≡ W.made world.old }
+    ensures cause { IsErrOf result ReadFault.World → ReadCause name.now (W.told world.old) (W.told world.new) }
+    ensures too_long { IsErrOf result ReadFault.TooLong → IsLonger (W.told world.old).files name.now limit }
+    ensures rest { OnlyReads name.now (W.told world.old) (W.told world.new) }
 {
     let mut out = Vec::new(alloc);
     let mut chunk = [0u8; CHUNK];

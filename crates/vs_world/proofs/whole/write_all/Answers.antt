@@ -1,6 +1,7 @@
 use Rattle.std.proofs.Common.{◌-◌, length, take, drop, ap, ◌∙◌, arith, length-drop}
 use Rattle.std.specs.Option.{option_map}
 use Rattle.vs_world.specs.Outside.{appended}
+use Rattle.vs_world.specs.CountLaws.{writes_again}
 use Rattle.vs_world.proofs.Pieces.{told-more}
 use Rattle.vs_world.proofs.whole.write_all.Goals as goal
 
@@ -15,11 +16,8 @@ pieces-preserved g c =
     record {
       unmoved = λ none. absurd (omega (arith, none, e.bound.0));
       within = omega (arith, e.bound.1, length-drop c.pieces.at bytes);
-      written = e.ok ∙ ap (option_map (appended s piece)) i.written ∙ told-more s bytes c.pieces.at n (g.W.World.written c.args.world.now) (omega (arith, e.bound.1));
-      later = omega arith;
-      absent = e.absent ∙ i.absent;
-      files = e.files ∙ i.files;
-      made = e.made ∙ i.made;
+      written = e.ok ∙ ap (option_map (appended s piece)) i.written ∙ told-more s bytes c.pieces.at n (g.W.World.told c.args.world.now).written (omega (arith, e.bound.1));
+      rest = writes_again _ _ _ i.rest e.rest;
     }
 
 pub returns-clause-no_call : goal.returns-clause-no_call

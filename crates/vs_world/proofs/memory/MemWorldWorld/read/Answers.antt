@@ -3,7 +3,7 @@ use Rattle.std.proofs.lemmas.Bool.{false≢true}
 use Rattle.vs_world.specs.declared.memory.MemFile.{MemFile}
 use Rattle.vs_world.specs.Memory.{Memory, file_of, missed, read_size}
 use Rattle.vs_world.specs.InMemory.{memory_of}
-use Rattle.vs_world.proofs.MemoryReads.{found, moves, reads_at, not_found, missed_cause, missed_counts}
+use Rattle.vs_world.proofs.MemoryReads.{found, moves, reads_at, not_found, missed_cause, missed_rest}
 use Rattle.vs_world.proofs.memory.MemWorldWorld.read.Goals as goal
 
 pub returns-in-Some-clause-fails : goal.returns-in-Some-clause-fails
@@ -48,8 +48,8 @@ returns-in-None-clause-cause c =
     let f = not_found (memory_of c.args.self.now) (memory_of c.call.new.self) c.args.name.now (sym c.if-call.ensures.planned) c.call.ensures.after none in
     missed_cause (memory_of c.args.self.now) (memory_of c.missed.new.self) c.args.name.now (c.missed.ensures.missed ∙ ap missed c.call.ensures.after) f.missing
 
-pub returns-in-None-clause-counts : goal.returns-in-None-clause-counts
-returns-in-None-clause-counts c =
+pub returns-in-None-clause-rest : goal.returns-in-None-clause-rest
+returns-in-None-clause-rest c =
     let none = ap (λ (fs : List MemFile). file_of fs c.args.name.now) (sym c.deref.ensures.value) ∙ sym c.find_file.ensures ∙ ap option_copied c.in-None.is in
     let f = not_found (memory_of c.args.self.now) (memory_of c.call.new.self) c.args.name.now (sym c.if-call.ensures.planned) c.call.ensures.after none in
-    missed_counts (memory_of c.args.self.now) (memory_of c.missed.new.self) c.args.name.now (c.missed.ensures.missed ∙ ap missed c.call.ensures.after) (subst (λ (n : ℕ). n ≤ c.missed.new.self.absent) (ap (λ (x : Memory). x.absent) c.call.ensures.after) c.missed.ensures.later) f.missing
+    missed_rest (memory_of c.args.self.now) (memory_of c.missed.new.self) c.args.name.now (c.missed.ensures.missed ∙ ap missed c.call.ensures.after) (subst (λ (n : ℕ). n ≤ c.missed.new.self.absent) (ap (λ (x : Memory). x.absent) c.call.ensures.after) c.missed.ensures.later) f.missing
