@@ -2,62 +2,26 @@
 
 use crate::counts::Tally;
 use crate::given::{Given, List, Places, of_connection};
-use crate::head::{CLOCK, HeadPort, PLAIN, port_denoted};
+use crate::head::{HeadPort, port_denoted};
 use crate::present::Present;
 use crate::stop::Stop;
 use elab_types::Direction;
-use std::alloc::Global;
 use sv_expr::{Constant, Denoted, Fixed};
-use sv_tree::{CommaList, Connection, Expr, NameId};
+use sv_tree::{CommaList, Connection, Expr};
 use sv_walk::{visit_expr, visit_target};
-
-/// A port of an instance, and what its name denotes in it.
-#[derive(Clone, Copy)]
-pub struct Joined {
-    pub name: NameId,
-    pub denoted: Denoted,
-}
-
-/// Adds a port.
-fn put(list: &mut Vec<Joined>, port: HeadPort, item: u32) -> Result<(), Stop> {
-    let joined = Joined {
-        name: port.name.name,
-        denoted: port_denoted(port.kind, item),
-    };
-    let Ok(()) = list.push(joined) else {
-        return Err(Stop::NoMemory);
-    };
-    Ok(())
-}
-
-/// The ports of the top. Its inputs are clocks.
-pub fn joined_top(alloc: Global, ports: &[HeadPort]) -> Result<Vec<Joined>, Stop> {
-    let mut list = Vec::new(alloc);
-    for port in ports {
-        let item = match port.kind.direction {
-            Direction::Input => CLOCK,
-            Direction::Output => PLAIN,
-        };
-        put(&mut list, *port, item)?;
-    }
-    Ok(list)
-}
 
 /// Connects ports in their order, each a process of the scope that holds the instance.
 pub fn join_ports(
-    alloc: Global,
     present: &mut Present<'_>,
     places: &Places,
     connections: List<'_>,
     ports: &[HeadPort],
-) -> Result<Vec<Joined>, Stop> {
-    let mut list = Vec::new(alloc);
+) -> Result<(), Stop> {
     for (number, port) in ports.iter().enumerate() {
         let given = places.given(connections, port.name.name, number);
-        let item = present.connect(port.kind.direction, given)?;
-        put(&mut list, *port, item)?;
+        present.connect(port.kind.direction, given)?;
     }
-    Ok(list)
+    Ok(())
 }
 
 impl Present<'_> {
@@ -90,24 +54,12 @@ impl Present<'_> {
         }
     }
 
-    /// Connects a port, and tells whether its name is a clock.
-    fn connect(&mut self, direction: Direction, given: Given<'_>) -> Result<u32, Stop> {
+    /// Connects a port.
+    fn connect(&mut self, direction: Direction, given: Given<'_>) -> Result<(), Stop> {
         match given {
-            Given::Nothing => Ok(PLAIN),
-            Given::Same(name) => {
-                self.connect_name(direction)?;
-                Ok(match direction {
-                    Direction::Input => self.clock_by_name(name.name),
-                    Direction::Output => PLAIN,
-                })
-            }
-            Given::Value(expr) => {
-                self.connect_value(direction, expr)?;
-                Ok(match direction {
-                    Direction::Input => self.clock_by_value(expr),
-                    Direction::Output => PLAIN,
-                })
-            }
+            Given::Nothing => Ok(()),
+            Given::Same(_) => self.connect_name(direction),
+            Given::Value(expr) => self.connect_value(direction, expr),
         }
     }
 
@@ -133,7 +85,7 @@ impl Present<'_> {
     }
 
     /// Declares the constants and the ports of an instance in its scope.
-    pub fn declare_joined(&mut self, values: &[Constant], ports: &[Joined]) -> Result<(), Stop> {
+    pub fn declare_head(&mut self, values: &[Constant], ports: &[HeadPort]) -> Result<(), Stop> {
         for constant in values {
             let constant = *constant;
             let fixed = Fixed {
@@ -143,7 +95,7 @@ impl Present<'_> {
             self.table.declare(constant.name, Denoted::Constant(fixed))?;
         }
         for port in ports {
-            self.table.declare(port.name, port.denoted)?;
+            self.table.declare(port.name.name, port_denoted(port.kind))?;
         }
         Ok(())
     }

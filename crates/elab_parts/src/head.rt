@@ -12,11 +12,8 @@ use sv_tree::{
     CommaList, DataType, Expr, Item, Module, NameId, Names, Parameter, Port, Setting, Symbol, Token,
 };
 
-/// A variable that is no clock: its edges are not those of an input of the top.
-pub const PLAIN: u32 = 0;
-
-/// A variable of one bit whose edges are those of an input of the top.
-pub const CLOCK: u32 = 1;
+/// The number of each thing that a name denotes here: elaboration asks for types alone.
+pub const UNNUMBERED: u32 = 0;
 
 /// A port of an instance.
 #[derive(Clone, Copy)]
@@ -250,16 +247,16 @@ fn visit_port(
         Ok(kind) => kind,
         Err(fault) => return Err(Stop::from(fault)),
     };
-    child.declare(port.name.name, port_denoted(kind, PLAIN))?;
+    child.declare(port.name.name, port_denoted(kind))?;
     head.put_port(port.name, kind)?;
     Ok(kind)
 }
 
 /// What the name of a port denotes.
-pub fn port_denoted(kind: PortType, item: u32) -> Denoted {
+pub fn port_denoted(kind: PortType) -> Denoted {
     Denoted::Variable(Declared {
         kind: kind.packed.kind,
-        item,
+        item: UNNUMBERED,
     })
 }
 

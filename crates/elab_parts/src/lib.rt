@@ -9,11 +9,11 @@
 //!
 //! - A *head* is what stands before a module's items: [`head_of`] visits the parameter list and the ports of an
 //!   instance, with what it gives to them (IEEE 1800-2017 23.10), and [`join_ports`] connects the ports in their order,
-//!   each a process of the scope that holds the instance (23.3.3). The ports of the top are [`joined_top`].
+//!   each a process of the scope that holds the instance (23.3.3).
 //! - An *item* that makes no scope is a method of [`Present`]: variables, parameters, assignments, processes. Statements
 //!   are walked turn by turn of their loops, whose variable is a constant in each turn.
-//! - The variable of an *event* has one bit, and is an input of the top, or an input that is connected to such a variable
-//!   by its plain name.
+//! - The variable of an *event* has one bit, and may be any variable that is in scope: an input, or one that the design
+//!   itself makes (9.4.2).
 //! - The names that a scope declares, wherever in it, are those that no block without a name may have (27.6):
 //!   [`declare_module`], [`declare_body`]. Paths are [`root`], [`inner`] and the segments of blocks.
 //!
@@ -36,7 +36,6 @@
 //! ```
 #![tactic(auto)]
 
-mod clock;
 mod connect;
 mod counts;
 mod declared;
@@ -48,7 +47,7 @@ mod present;
 mod statements;
 mod stop;
 
-pub use connect::{Joined, join_ports, joined_top};
+pub use connect::join_ports;
 pub use counts::Counts;
 pub use declared::{declare_body, declare_module};
 pub use given::{Given, List, Places, list_of};

@@ -1,6 +1,6 @@
 //! The paths of scopes.
 
-ghost use Rattle.std.specs.Prelude.{◌≡◌, ◌++◌, IfOk, IfErr, OnOk};
+ghost use Rattle.std.specs.Prelude.{◌≡◌, [], ◌++◌, IfOk, IfErr, OnOk};
 ghost use Rattle.vs_base.specs.Number.{signed_reading};
 ghost use Rattle.elab_parts.specs.Paths.{inner_path, turn_name, block_number};
 
@@ -46,10 +46,24 @@ pub fn inner(alloc: Global, outer: &[u8], segment: &[u8]) -> Result<Text, Stop>
     ensures path { IfOk result (λ path. path ≡ inner_path outer.now segment.now) }
     ensures memory { IfErr result (λ stop. stop ≡ Stop.NoMemory) }
 {
-    let mut bytes = bytes_of(alloc, outer)?;
+    let mut bytes = room(alloc, outer.len(), segment.len())?;
+    put(&mut bytes, outer)?;
     put(&mut bytes, b".")?;
     put(&mut bytes, segment)?;
     Ok(Text::new(bytes))
+}
+
+/// Room for a path of so many bytes with a dot and a segment of so many after it, and no more: a design may have
+/// millions of scopes.
+fn room(alloc: Global, outer: usize, segment: usize) -> Result<Vec<u8>, Stop>
+    ensures empty { IfOk result (λ bytes. bytes.items ≡ []) }
+    ensures memory { IfErr result (λ stop. stop ≡ Stop.NoMemory) }
+{
+    let len = outer.saturating_add(segment).saturating_add(1);
+    match Vec::with_capacity(alloc, len) {
+        Ok(bytes) => Ok(bytes),
+        Err(_) => Err(Stop::NoMemory),
+    }
 }
 
 /// The segment of a turn: the block's name and the value of the genvar, `NAME[i]`, read with a sign. There is no fault but want

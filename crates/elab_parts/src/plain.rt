@@ -2,7 +2,7 @@
 
 ghost use Rattle.sv_expr.specs.Bound.{IsWidth};
 
-use crate::head::PLAIN;
+use crate::head::UNNUMBERED;
 use crate::present::Present;
 use crate::statements::statement;
 use crate::stop::Stop;
@@ -10,6 +10,7 @@ use elab_types::{ParameterType, bounds, packed_type, parameter_value, result_kin
 use sv_expr::{Declared, Denoted, Fixed, symbol};
 use sv_tree::{
     Assignment, CommaList, DataType, Declaration, Event, Import, Names, Setting, Stmt, Symbol,
+    Token,
 };
 use vs_base::ValueType;
 
@@ -41,7 +42,7 @@ impl Present<'_> {
         };
         let declared = Declared {
             kind: packed.kind,
-            item: PLAIN,
+            item: UNNUMBERED,
         };
         let is_wire = is_wire(self.names, kind);
         self.variable(declared, is_wire, &declarations.first)?;
@@ -117,6 +118,14 @@ impl Present<'_> {
         }
         Ok(())
     }
+
+    /// The event of a variable of this name, which has one bit.
+    fn event(&self, name: Token) -> Result<(), Stop> {
+        match self.table.get(name.name) {
+            Denoted::Variable(declared) if declared.kind.width == 1 => Ok(()),
+            _ => Err(Stop::BadEvent(name.at, name.name)),
+        }
+    }
 }
 
 /// What the name of an import denotes.
@@ -131,7 +140,10 @@ pub fn import_denoted(names: &Names, import: &Import) -> Denoted {
 fn with_result(kind: ValueType) -> Denoted
     requires { IsWidth kind.width }
 {
-    Denoted::Import(Declared { kind, item: PLAIN })
+    Denoted::Import(Declared {
+        kind,
+        item: UNNUMBERED,
+    })
 }
 
 /// Whether a type's word is `wire`, with which a value in a declaration is a continuous assignment

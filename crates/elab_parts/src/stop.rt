@@ -28,8 +28,6 @@ pub enum Stop {
     BadRange(Origin),
     #[error("bad event")]
     BadEvent(Origin, NameId),
-    #[error("derived clock")]
-    DerivedClock(Origin, NameId),
     #[error("too many loop turns")]
     LoopTurns(Origin),
     #[error("too many")]

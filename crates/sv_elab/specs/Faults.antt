@@ -20,7 +20,6 @@ abbrev pub is_of_walk : DesignFault → Bool
 is_of_walk (fault.TooWide at) = true
 is_of_walk (fault.BadRange at) = true
 is_of_walk (fault.BadEvent at name) = true
-is_of_walk (fault.DerivedClock at name) = true
 is_of_walk (fault.LoopTurns at) = true
 is_of_walk (fault.TooMany k) = is_counted k
 is_of_walk fault.NoMemory = true

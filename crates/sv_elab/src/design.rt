@@ -19,8 +19,8 @@ use sv_tree::{Description, Module, NameId, Names, SourceTree};
 /// `top`, or where none is asked for the one that no item instantiates.
 ///
 /// The faults that the text alone shows come first, as [`check_names`] tells them; then the first one that the walk
-/// meets: [`DesignFault::TooWide`], [`DesignFault::BadRange`], [`DesignFault::BadEvent`], [`DesignFault::DerivedClock`],
-/// [`DesignFault::LoopTurns`], or [`DesignFault::TooMany`] of instances, processes, terms or calls.
+/// meets: [`DesignFault::TooWide`], [`DesignFault::BadRange`], [`DesignFault::BadEvent`], [`DesignFault::LoopTurns`], or
+/// [`DesignFault::TooMany`] of instances, processes, terms or calls.
 /// `NoMemory`: there was none left.
 pub fn elaborate(
     alloc: Global,

@@ -15,7 +15,6 @@ pub fn told(stop: Stop) -> DesignFault
         Stop::TooWide(at) => DesignFault::TooWide(at),
         Stop::BadRange(at) => DesignFault::BadRange(at),
         Stop::BadEvent(at, name) => DesignFault::BadEvent(at, name),
-        Stop::DerivedClock(at, name) => DesignFault::DerivedClock(at, name),
         Stop::LoopTurns(at) => DesignFault::LoopTurns(at),
         Stop::TooMany(Counted::Instances) => DesignFault::TooMany(Kind::Instances),
         Stop::TooMany(Counted::Processes) => DesignFault::TooMany(Kind::Processes),

@@ -2,8 +2,7 @@
 
 use crate::walk::{End, Level, Source, Walk, add};
 use elab_parts::{
-    Head, Joined, List, Outer, Stop, declare_module, head_of, inner, join_ports, joined_top,
-    list_of,
+    Head, HeadPort, List, Outer, Stop, declare_module, head_of, inner, join_ports, list_of,
 };
 use sv_expr::{Constant, Fixed, text_of};
 use sv_names::module_at;
@@ -13,8 +12,7 @@ impl<'t> Walk<'t> {
     /// Enters the top, and leaves its items to be walked.
     pub fn top(&mut self, module: &'t Module) -> Result<(), Stop> {
         let head = self.top_head(module)?;
-        let joined = joined_top(self.alloc, head.ports.as_slice())?;
-        self.enter(module, 0, head.overrides, joined.as_slice())
+        self.enter(module, 0, head.overrides, head.ports.as_slice())
     }
 
     /// Counts the top, and gives its head, whose constants are those of the first scope.
@@ -65,9 +63,9 @@ impl<'t> Walk<'t> {
         connections: List<'t>,
     ) -> Result<(), Stop> {
         let head = self.head(module, given)?;
-        let joined = self.join(&head, connections)?;
+        self.join(&head, connections)?;
         let scope = self.add_instance(module, name, head.values)?;
-        self.enter(module, scope, head.overrides, joined.as_slice())
+        self.enter(module, scope, head.overrides, head.ports.as_slice())
     }
 
     /// The head of an instance.
@@ -84,10 +82,9 @@ impl<'t> Walk<'t> {
     }
 
     /// Connects the ports of an instance.
-    fn join(&mut self, head: &Head, connections: List<'t>) -> Result<Vec<Joined>, Stop> {
+    fn join(&mut self, head: &Head, connections: List<'t>) -> Result<(), Stop> {
         self.places.fill(connections);
         let joined = join_ports(
-            self.alloc,
             &mut self.present,
             &self.places,
             connections,
@@ -116,10 +113,10 @@ impl<'t> Walk<'t> {
         module: &'t Module,
         scope: u32,
         overrides: Vec<Option<Fixed>>,
-        joined: &[Joined],
+        ports: &[HeadPort],
     ) -> Result<(), Stop> {
         self.open(scope, module.name.name, overrides)?;
-        self.declare_head(module, scope, joined)?;
+        self.declare_head(module, scope, ports)?;
         add(
             &mut self.levels,
             &Level {
@@ -131,11 +128,15 @@ impl<'t> Walk<'t> {
     }
 
     /// Declares what is known in an instance before its items.
-    fn declare_head(&mut self, module: &Module, scope: u32, joined: &[Joined]) -> Result<(), Stop> {
+    fn declare_head(
+        &mut self,
+        module: &Module,
+        scope: u32,
+        ports: &[HeadPort],
+    ) -> Result<(), Stop> {
         self.present.table.enter_module()?;
         self.declared.enter()?;
         declare_module(&mut self.declared, module)?;
-        self.present
-            .declare_joined(self.scopes.values(scope), joined)
+        self.present.declare_head(self.scopes.values(scope), ports)
     }
 }

@@ -47,6 +47,5 @@ walked_allowed list at (fault.BadImport place) one w = cc
 walked_allowed list at (fault.TooWide place) one w = cc
 walked_allowed list at (fault.BadRange place) one w = cc
 walked_allowed list at (fault.BadEvent place name) one w = cc
-walked_allowed list at (fault.DerivedClock place name) one w = cc
 walked_allowed list at (fault.LoopTurns place) one w = cc
 walked_allowed list at (fault.TooMany kind) one w = cc

@@ -23,7 +23,6 @@ TopAllows tops fault.NoMemory = Unit {0}
 TopAllows tops (fault.TooWide at) = ⊥
 TopAllows tops (fault.BadRange at) = ⊥
 TopAllows tops (fault.BadEvent at name) = ⊥
-TopAllows tops (fault.DerivedClock at name) = ⊥
 TopAllows tops (fault.LoopTurns at) = ⊥
 TopAllows tops (fault.TooMany kind) = ⊥
 
@@ -50,7 +49,6 @@ is_walked (fault.BadImport at) = false
 is_walked (fault.TooWide at) = false
 is_walked (fault.BadRange at) = false
 is_walked (fault.BadEvent at name) = false
-is_walked (fault.DerivedClock at name) = false
 is_walked (fault.LoopTurns at) = false
 is_walked (fault.TooMany kind) = false
 

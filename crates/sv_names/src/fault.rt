@@ -60,10 +60,6 @@ pub enum DesignFault {
     /// An event of a variable that has not 1 bit: at the variable's name.
     #[error("bad event")]
     BadEvent(Origin, NameId),
-    /// An event of a variable that is no input of the top module, nor connected to one by plain names: at the variable's
-    /// name.
-    #[error("derived clock")]
-    DerivedClock(Origin, NameId),
     /// The turn of a loop past the limit on all turns: at the loop's `for`.
     #[error("too many loop turns")]
     LoopTurns(Origin),

@@ -56,7 +56,6 @@ fn rank(fault: DesignFault) -> u8 {
         DesignFault::TooWide(_)
         | DesignFault::BadRange(_)
         | DesignFault::BadEvent(..)
-        | DesignFault::DerivedClock(..)
         | DesignFault::LoopTurns(_)
         | DesignFault::TooMany(_) => 13,
     }
