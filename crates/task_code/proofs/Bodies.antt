@@ -11,7 +11,8 @@ use Rattle.task_code.specs.declared.tail.Limits.{Limits}
 use Rattle.task_code.specs.Tails.{StoresIn, AllStoreIn}
 use Rattle.rtl_pieces.specs.declared.layout.Word.{Word}
 use Rattle.task_eval.specs.Codes.{Ops}
-use Rattle.task_code.specs.Compiled.{Each, IsBody, is_shadow, OpStores, Stores, kind_is_clocked, with_number, clocked_from}
+use Rattle.rtl_pieces.specs.Words.{is_clocked_kind}
+use Rattle.task_code.specs.Compiled.{Each, IsBody, is_shadow, OpStores, Stores, with_number, clocked_from}
 
 op_stores : (limits : Limits) (Such : ℕ → Type 0) (o : Op) → ((k : ℕ) → limits.from ≤ k → k < limits.to → Such k) → StoresIn limits o → OpStores Such o
 op_stores limits Such (op.Push n) f s = tt
@@ -63,11 +64,11 @@ all_more {A = A} P xs x all is = All-append P xs (x ∷ []) all (λ k d h. only 
     only (suc k) d h = absurd (omega (arith, h))
 
 -- the number of one process more
-pub clocked_more : (n : ℕ) (procs : List Proc) (p : Proc) → clocked_from n (procs ++ p ∷ []) ≡ clocked_from n procs ++ with_number (kind_is_clocked p.kind) (n + length procs) []
-clocked_more n [] p = ap (λ k. with_number (kind_is_clocked p.kind) k []) (omega arith)
-clocked_more n (x ∷ procs) p = ap (with_number (kind_is_clocked x.kind) n) (clocked_more (suc n) procs p ∙ ap (λ k. clocked_from (suc n) procs ++ with_number (kind_is_clocked p.kind) k []) (omega arith)) ∙ front (kind_is_clocked x.kind)
+pub clocked_more : (n : ℕ) (procs : List Proc) (p : Proc) → clocked_from n (procs ++ p ∷ []) ≡ clocked_from n procs ++ with_number (is_clocked_kind p.kind) (n + length procs) []
+clocked_more n [] p = ap (λ k. with_number (is_clocked_kind p.kind) k []) (omega arith)
+clocked_more n (x ∷ procs) p = ap (with_number (is_clocked_kind x.kind) n) (clocked_more (suc n) procs p ∙ ap (λ k. clocked_from (suc n) procs ++ with_number (is_clocked_kind p.kind) k []) (omega arith)) ∙ front (is_clocked_kind x.kind)
   where
-    front : (b : Bool) → with_number b n (clocked_from (suc n) procs ++ with_number (kind_is_clocked p.kind) (n + length (x ∷ procs)) []) ≡ with_number b n (clocked_from (suc n) procs) ++ with_number (kind_is_clocked p.kind) (n + length (x ∷ procs)) []
+    front : (b : Bool) → with_number b n (clocked_from (suc n) procs ++ with_number (is_clocked_kind p.kind) (n + length (x ∷ procs)) []) ≡ with_number b n (clocked_from (suc n) procs) ++ with_number (is_clocked_kind p.kind) (n + length (x ∷ procs)) []
     front true = refl
     front false = refl
 
@@ -75,14 +76,14 @@ pub take_on : {A : Type 0} (xs : List A) (n : ℕ) (x : A) → n < length xs →
 take_on xs n x h e = take_more xs n x h ∙ ap (λ v. take n xs ++ v ∷ []) (sym e)
 
 -- the clocked ones of one process more
-pub clocked_on : (procs : List Proc) (n : ℕ) (p : Proc) → n < length procs → p ≡ get_or procs n p → clocked_from 0 (take (n + 1) procs) ≡ clocked_from 0 (take n procs) ++ with_number (kind_is_clocked p.kind) n []
-clocked_on procs n p h e = ap (clocked_from 0) (take_on procs n p h e) ∙ clocked_more 0 (take n procs) p ∙ ap (λ k. clocked_from 0 (take n procs) ++ with_number (kind_is_clocked p.kind) k []) (let l = length-take n procs in omega (arith, l, h))
+pub clocked_on : (procs : List Proc) (n : ℕ) (p : Proc) → n < length procs → p ≡ get_or procs n p → clocked_from 0 (take (n + 1) procs) ≡ clocked_from 0 (take n procs) ++ with_number (is_clocked_kind p.kind) n []
+clocked_on procs n p h e = ap (clocked_from 0) (take_on procs n p h e) ∙ clocked_more 0 (take n procs) p ∙ ap (λ k. clocked_from 0 (take n procs) ++ with_number (is_clocked_kind p.kind) k []) (let l = length-take n procs in omega (arith, l, h))
 
 -- with one process more that is clocked, and with one that is not
-pub clocked_with : (procs : List Proc) (n : ℕ) (p : Proc) → n < length procs → p ≡ get_or procs n p → kind_is_clocked p.kind ≡ true → clocked_from 0 (take (n + 1) procs) ≡ clocked_from 0 (take n procs) ++ n ∷ []
+pub clocked_with : (procs : List Proc) (n : ℕ) (p : Proc) → n < length procs → p ≡ get_or procs n p → is_clocked_kind p.kind ≡ true → clocked_from 0 (take (n + 1) procs) ≡ clocked_from 0 (take n procs) ++ n ∷ []
 clocked_with procs n p h e is = clocked_on procs n p h e ∙ ap (λ b. clocked_from 0 (take n procs) ++ with_number b n []) is
 
-pub clocked_without : (procs : List Proc) (n : ℕ) (p : Proc) → n < length procs → p ≡ get_or procs n p → kind_is_clocked p.kind ≡ false → clocked_from 0 (take (n + 1) procs) ≡ clocked_from 0 (take n procs)
+pub clocked_without : (procs : List Proc) (n : ℕ) (p : Proc) → n < length procs → p ≡ get_or procs n p → is_clocked_kind p.kind ≡ false → clocked_from 0 (take (n + 1) procs) ≡ clocked_from 0 (take n procs)
 clocked_without procs n p h e is = clocked_on procs n p h e ∙ ap (λ b. clocked_from 0 (take n procs) ++ with_number b n []) is ∙ append-nil (clocked_from 0 (take n procs))
 
 module _ {A : Type 0} where
@@ -101,10 +102,10 @@ module _ {A : Type 0} where
 
 -- what a clocked process may store are shadows
 pub body_kept : (words : List Word) (first count : ℕ) (process : Proc) (limits : Limits) {E : Type 0} (made : Result Ops E) {imports : ℕ}
-    → count ≡ length words → ((k : ℕ) → k < length words → is_shadow words k ≡ nat_le first k) → kind_is_clocked process.kind ≡ true
+    → count ≡ length words → ((k : ℕ) → k < length words → is_shadow words k ≡ nat_le first k) → is_clocked_kind process.kind ≡ true
     → limits ≡ record { words = count; imports = imports; from = first; to = count } → IfOk made (λ code. AllStoreIn limits code.ops) → IfOk made (IsBody words process)
 body_kept words first count process limits (Ok code) {imports} is_count shadows clocked is s =
-    all_stores limits (λ k. is_shadow words k ≡ kind_is_clocked process.kind) code.ops
+    all_stores limits (λ k. is_shadow words k ≡ is_clocked_kind process.kind) code.ops
     (λ k low high.
     let from = ap (λ (l : Limits). l.from) is in let to = ap (λ (l : Limits). l.to) is in
     shadows k (omega (arith, high, to, is_count)) ∙ le-leb first k (omega (arith, low, from)) ∙ sym clocked)
@@ -113,10 +114,10 @@ body_kept words first count process limits (Err e) is_count shadows clocked is s
 
 -- what another one may store are none
 pub body_direct : (words : List Word) (first count : ℕ) (process : Proc) (limits : Limits) {E : Type 0} (made : Result Ops E) {imports : ℕ}
-    → count ≡ length words → first ≤ count → ((k : ℕ) → k < length words → is_shadow words k ≡ nat_le first k) → kind_is_clocked process.kind ≡ false
+    → count ≡ length words → first ≤ count → ((k : ℕ) → k < length words → is_shadow words k ≡ nat_le first k) → is_clocked_kind process.kind ≡ false
     → limits ≡ record { words = count; imports = imports; from = 1; to = first } → IfOk made (λ code. AllStoreIn limits code.ops) → IfOk made (IsBody words process)
 body_direct words first count process limits (Ok code) {imports} is_count most shadows clocked is s =
-    all_stores limits (λ k. is_shadow words k ≡ kind_is_clocked process.kind) code.ops
+    all_stores limits (λ k. is_shadow words k ≡ is_clocked_kind process.kind) code.ops
     (λ k low high.
     let to = ap (λ (l : Limits). l.to) is in
     shadows k (omega (arith, high, to, is_count, most)) ∙ lt-leb first k (omega (arith, high, to)) ∙ sym clocked)

@@ -15,9 +15,13 @@ use Rattle.task_eval.specs.declared.index.Elements.{Elements}
 use Rattle.task_eval.specs.Codes.{Ops}
 use Rattle.task_eval.specs.Course.{course_of}
 use Rattle.task_eval.specs.Buses.{Outside, run}
+use Rattle.task_code.specs.declared.here.Own.{Own}
 use Rattle.task_code.specs.declared.sole.Sole.TheVariants as sole
+use Rattle.task_code.specs.declared.stand.Part.TheVariants as part
+use Rattle.task_code.specs.declared.stand.Stand.TheVariants as stand
 use Rattle.task_code.specs.declared.tail.Limits.{Limits}
 use Rattle.task_code.specs.declared.tail.Mark.{Mark}
+use Rattle.task_code.specs.Reads.{IsRead}
 use Rattle.task_code.specs.Soles.{IsSole}
 use Rattle.task_code.specs.Tails.{StoresIn, Lands, IsTail}
 use Rattle.task_code.specs.Compiled.{Each, is_shadow, clocked_from, IsBody, IsCommit}
@@ -194,3 +198,23 @@ a_whole_word = (omega arith, omega arith)
 
 no_word_of_no_bits : IsSole (sole.Word 0 0) → ⊥
 no_word_of_no_bits s = (let h = s.0 in omega (arith, h))
+
+-- ---- n[5][7:0] of `logic [3:0] n [0:3]`
+
+abbrev nibble : Own
+nibble = record { width = 4; signed = false; lsb = 0; low = pos 0 }
+
+-- eight bits are read, though the element would have four
+all_bits_of_the_select : IsRead stand.Nowhere nibble (part.At (pos 0) 8) [] (op.Push (bits 8 0) ∷ [])
+all_bits_of_the_select = refl
+
+abbrev first_width : List Op → ℕ
+first_width (op.Push n ∷ more) = n.width
+first_width _ = 0
+
+not_those_of_the_element : IsRead stand.Nowhere nibble (part.At (pos 0) 8) [] (op.Push (bits 4 0) ∷ []) → ⊥
+not_those_of_the_element r = (let e : 4 ≡ 8 = ap first_width r in omega (arith, e))
+
+-- n[5] has those of the element
+no_select : IsRead stand.Nowhere nibble part.All [] (op.Push (bits 4 0) ∷ [])
+no_select = refl

@@ -1,9 +1,8 @@
 -- The codes of a design: one for each process, and then a commit for each clocked process.
 use Rattle.std.specs.Prelude.{◌≡◌, ℕ, suc, ◌+◌, ◌*◌, ◌<◌, Bool, true, false, ◌&&◌, List, [], ◌∷◌, Option, Some, None, slice_get}
 use Rattle.rtl_ir.specs.declared.design.Proc.{Proc}
-use Rattle.rtl_ir.specs.declared.design.ProcKind.{ProcKind}
-use Rattle.rtl_ir.specs.declared.design.ProcKind.TheVariants.{Comb, Clocked}
 use Rattle.rtl_pieces.specs.declared.layout.Word.{Word}
+use Rattle.rtl_pieces.specs.Words.{is_clocked_kind}
 use Rattle.task_eval.specs.declared.op.Op.{Op}
 use Rattle.task_eval.specs.declared.op.Op.TheVariants as op
 use Rattle.task_eval.specs.Codes.{Ops}
@@ -16,10 +15,6 @@ Each R (a ∷ rest) [] = ⊥
 Each R (a ∷ rest) (b ∷ more) = R a b × Each R rest more
 
 -- ---- bodies
-
-abbrev pub kind_is_clocked : ProcKind → Bool
-kind_is_clocked Comb = false
-kind_is_clocked (Clocked events) = true
 
 abbrev pub flagged : Option Word → Bool
 flagged (Some word) = word.shadow
@@ -41,7 +36,7 @@ Stores Such (o ∷ more) = OpStores Such o × Stores Such more
 
 -- the body of a clocked process stores shadows alone, and that of another one stores none
 abbrev pub IsBody : List Word → Proc → Ops → Type 0
-IsBody words process code = Stores (λ k. is_shadow words k ≡ kind_is_clocked process.kind) code.ops
+IsBody words process code = Stores (λ k. is_shadow words k ≡ is_clocked_kind process.kind) code.ops
 
 -- ---- commits
 
@@ -52,7 +47,7 @@ with_number false n more = more
 
 abbrev pub clocked_from : ℕ → List Proc → List ℕ
 clocked_from n [] = []
-clocked_from n (process ∷ more) = with_number (kind_is_clocked process.kind) n (clocked_from (suc n) more)
+clocked_from n (process ∷ more) = with_number (is_clocked_kind process.kind) n (clocked_from (suc n) more)
 
 -- the word of this number holds the bits of a shadow
 abbrev pub IsWordOf : List Word → Word → ℕ → Type 0

@@ -1,3 +1,4 @@
 pub mod Tails
 pub mod Soles
+pub mod Reads
 pub mod Compiled

@@ -2,7 +2,8 @@
 ghost use Rattle.std.specs.Prelude.{◌≡◌, ℕ, ◌≤◌, ◌<◌, nat_le, length, IfOk};
 ghost use Rattle.std.specs.List.{All};
 ghost use Rattle.task_eval.specs.Soundness.{IsWithin};
-ghost use Rattle.task_code.specs.Compiled.{Each, IsBody, is_shadow, kind_is_clocked};
+ghost use Rattle.rtl_pieces.specs.Words.{is_clocked_kind};
+ghost use Rattle.task_code.specs.Compiled.{Each, IsBody, is_shadow};
 ghost use Rattle.task_code.specs.Tails.{AllStoreIn};
 
 use crate::fault::CodeFault;
@@ -107,7 +108,7 @@ fn code_of(
 
 /// Whether a process is clocked.
 pub(crate) fn is_clocked(process: &Proc) -> bool
-    ensures { result ≡ kind_is_clocked process.now.kind }
+    ensures { result ≡ is_clocked_kind process.now.kind }
 {
     match process.kind {
         ProcKind::Comb => false,

@@ -8,7 +8,7 @@ use crate::kind::{
     Kind, binary, compared_kind, first_kind, formal_width, kind_of, level_width, reductions,
     result_width, total_width, unary,
 };
-use crate::load::{load_element, load_part};
+use crate::load::{load_element, load_fixed};
 use crate::stand::{Part, Stand, part_of, stand_of, width_of};
 use crate::tail::Tail;
 use rtl_ir::{BinaryOp, Call, Choice, Class, Expr, ExprNode, Target, UnaryOp};
@@ -364,14 +364,12 @@ fn read_from(
     ensures depth { OnOk result (out.new.depth + 1 ≡ out.old.depth) }
     ensures held { OnOk result (out.new.held ≡ out.old.held) }
 {
-    match stand_of(target, own, here)? {
-        Stand::Words(span) => load_part(span, part, here, out),
-        Stand::Nowhere => out.push(Bits::new(own.width.bits(), 0)),
-        Stand::Element(rows, address) => {
-            load_element(rows, address, own, part, here, out)?;
-            push_address(target, here, out)
-        }
+    let stand = stand_of(target, own, here)?;
+    if let Stand::Element(rows, address) = stand {
+        load_element(rows, address, own, part, here, out)?;
+        return push_address(target, here, out);
     }
+    load_fixed(stand, own, part, here, out)
 }
 
 /// Pushes the index of a select.

@@ -38,6 +38,7 @@
 //! - The number of codes is that of the processes and the clocked processes.
 //! - The codes are sound, by their type, and name only words of the layout and imports of the design.
 //! - The body of a clocked process stores shadows alone, and that of another one stores no shadow.
+//! - The part of an element at a constant address out of range is a 0 of as many bits as are named (`specs/Reads.antt`).
 //! - A commit is exactly the list of a load of a shadow and a store of its word, for each shadow whose bits the process writes, in
 //!   order.
 //!
@@ -83,8 +84,6 @@ mod stand;
 mod statement;
 mod table;
 mod tail;
-#[cfg(test)]
-mod tests;
 mod write;
 
 pub use codes::compile;

@@ -1,22 +1,40 @@
 //! Reads of words.
-ghost use Rattle.std.specs.Prelude.{◌≡◌, ◌≤◌, ◌<◌, ◌+◌, OnOk, IfOk};
+ghost use Rattle.std.specs.Prelude.{◌≡◌, ◌≤◌, ◌<◌, ◌+◌, ◌∷◌, OnOk, IfOk};
+ghost use Rattle.task_eval.specs.declared.op.Op.TheVariants as the_op;
+ghost use Rattle.task_code.specs.Reads.{IsRead, zero_read, width_read as width_read_of};
 
 use crate::fault::CodeFault;
 use crate::here::{Here, Own};
-use crate::stand::Part;
+use crate::stand::{Part, Stand};
 use crate::table::{Rows, Span};
 use crate::tail::Tail;
 use task_eval::Index;
 use vs_base::Bits;
 
-/// Pushes the part of a variable or an element that stands in words. The index, where it is taken when the code runs, is pushed
-/// after it.
-pub(crate) fn load_part(
-    span: Span,
+/// Pushes the part of a variable or an element whose place is known before the run. The index, where it is taken when the code
+/// runs, is pushed after it.
+pub(crate) fn load_fixed(
+    stand: Stand,
+    own: &Own,
     part: &Part,
     here: &Here<'_>,
     out: &mut Tail,
 ) -> Result<(), CodeFault>
+    requires limits { out.old.held.limits ≡ here.now.limits }
+    requires deep { 1 ≤ out.old.depth }
+    ensures read { OnOk result (IsRead stand own.now part.now out.old.ops out.new.ops) }
+    ensures depth { OnOk result (out.new.depth + 1 ≡ out.old.depth) }
+    ensures held { OnOk result (out.new.held ≡ out.old.held) }
+{
+    match stand {
+        Stand::Words(span) => load_part(span, part, here, out),
+        Stand::Nowhere => load_nothing(own, part, out),
+        Stand::Element(_, _) => Err(CodeFault::DoesNotFit),
+    }
+}
+
+/// Pushes the part of a variable or an element that stands in words.
+fn load_part(span: Span, part: &Part, here: &Here<'_>, out: &mut Tail) -> Result<(), CodeFault>
     requires limits { out.old.held.limits ≡ here.now.limits }
     requires deep { 1 ≤ out.old.depth }
     ensures depth { OnOk result (out.new.depth + 1 ≡ out.old.depth) }
@@ -26,6 +44,30 @@ pub(crate) fn load_part(
         return load_bits(span, *at, *width, here, out);
     }
     load_words(span, here, out)
+}
+
+/// Pushes the part of an element that is not there, which is 0.
+fn load_nothing(own: &Own, part: &Part, out: &mut Tail) -> Result<(), CodeFault>
+    requires deep { 1 ≤ out.old.depth }
+    ensures ops { OnOk result (out.new.ops ≡ the_op.Push (zero_read own.now part.now) ∷ out.old.ops) }
+    ensures depth { OnOk result (out.new.depth + 1 ≡ out.old.depth) }
+    ensures held { OnOk result (out.new.held ≡ out.old.held) }
+{
+    let width = width_read(own, part);
+    if width == 0 || width > 128 {
+        return Err(CodeFault::DoesNotFit);
+    }
+    out.push(Bits::new(width, 0))
+}
+
+/// How many bits are read of a part: those that a select by a constant names, and otherwise all.
+fn width_read(own: &Own, part: &Part) -> u32
+    ensures { result ≡ width_read_of own.now part.now }
+{
+    match part {
+        Part::At(_, width) => *width,
+        Part::All | Part::Index(_, _) => own.width.bits(),
+    }
 }
 
 /// Pushes so many bits from a place on. Bits outside are 0.

@@ -14,6 +14,7 @@ impl Tail {
     /// Pushes a constant.
     pub(crate) fn push(&mut self, value: Bits) -> Result<(), CodeFault>
         requires deep { 1 ≤ self.old.depth }
+        ensures ops { OnOk result (self.new.ops ≡ the_op.Push value ∷ self.old.ops) }
         ensures depth { OnOk result (self.new.depth + 1 ≡ self.old.depth) }
         ensures held { OnOk result (self.new.held ≡ self.old.held) }
     {
