@@ -6,34 +6,25 @@ use Rattle.std.proofs.lemmas.Bool.{and_parts, and_from, lt-ltb, ltb-true}
 use Rattle.std.proofs.lemmas.List.{length-map}
 use Rattle.std.proofs.lemmas.List.Sums.{sum_by-cons}
 use Rattle.rtl_ir.specs.declared.design.Proc.{Proc}
-use Rattle.rtl_ir.specs.declared.design.ProcKind.{ProcKind}
-use Rattle.rtl_ir.specs.declared.design.ProcKind.TheVariants.{Comb, Clocked}
 use Rattle.plan_graph.specs.declared.node.Node.{Node}
 use Rattle.plan_graph.specs.declared.node.Node.TheVariants as node
 use Rattle.plan_graph.specs.declared.node.Part.{Part}
 use Rattle.plan_graph.specs.declared.node.Part.TheVariants as part
 use Rattle.order_levels.specs.Serial.{numbers_from, clocked_procs, settle_nodes, clocked_nodes, serial_nodes}
-use Rattle.rtl_pieces.specs.Words.{is_clocked_kind}
 use Rattle.task_eval.specs.Codes.{Ops}
 use Rattle.task_eval.specs.Soundness.{IsWithin}
-use Rattle.task_code.specs.Compiled.{clocked_from, kind_is_clocked, with_number}
-use Rattle.plan_types.specs.Coded.{AllWithin, code_count, code_number, has_code}
-use Rattle.plan_types.specs.Coded as coded
-use Rattle.model_build.specs.Settle.{is_clocked, clocked_of, combs_of}
+use Rattle.task_code.specs.Compiled.{clocked_from, with_number}
+use Rattle.plan_types.specs.Coded.{AllWithin, code_count, code_number, has_code, is_clocked}
+use Rattle.plan_types.specs.Settle.{clocked_of, combs_of}
 
 -- ---- how many codes there are
 
-same_kind : (kind : ProcKind) → coded.is_clocked_kind kind ≡ kind_is_clocked kind
-same_kind Comb = refl
-same_kind (Clocked events) = refl
-
-pub clocked_count : (n : ℕ) (procs : List Proc) → length (clocked_from n procs) ≡ count_by coded.is_clocked procs
+pub clocked_count : (n : ℕ) (procs : List Proc) → length (clocked_from n procs) ≡ count_by is_clocked procs
 clocked_count n [] = refl
 clocked_count n (process ∷ more) =
-    ap (λ (t : Bool). length (with_number t n (clocked_from (suc n) more))) (sym (same_kind process.kind))
-    ∙ either (coded.is_clocked process)
-    ∙ ap (λ (k : ℕ). cond (coded.is_clocked process) 1 0 + k) (clocked_count (suc n) more)
-    ∙ sym (sum_by-cons (λ (p : Proc). cond (coded.is_clocked p) 1 0) process more)
+    either (is_clocked process)
+    ∙ ap (λ (k : ℕ). cond (is_clocked process) 1 0 + k) (clocked_count (suc n) more)
+    ∙ sym (sum_by-cons (λ (p : Proc). cond (is_clocked p) 1 0) process more)
   where
     either : (t : Bool) → length (with_number t n (clocked_from (suc n) more)) ≡ cond t 1 0 + length (clocked_from (suc n) more)
     either true = omega arith
@@ -57,24 +48,20 @@ module _ (passes : Bool → Bool) where
       either others true (suc k) less = let rest = others k (omega arith) in omega arith
       either others false k less = let rest = others k less in omega arith
 
-of_kind : (kind : ProcKind) → is_clocked_kind kind ≡ true → coded.is_clocked_kind kind ≡ true
-of_kind Comb is = absurd (let e : false ≡ true = is in cc)
-of_kind (Clocked events) is = refl
-
 -- before a clocked process stand fewer of them than there are
 record Before (at : ℕ) (procs : List Proc) (n : ℕ) : Type 0 where
   pub low : at ≤ n
-  pub fewer : count_by coded.is_clocked (take (n - at) procs) < count_by coded.is_clocked procs
+  pub fewer : count_by is_clocked (take (n - at) procs) < count_by is_clocked procs
 
 one_more : (at : ℕ) (p : Proc) (procs : List Proc) (n : ℕ) → Before (suc at) procs n → Before at (p ∷ procs) n
 one_more at p procs n is =
     let low = is.low in
     let fewer = is.fewer in
     let step : n - at ≡ suc (n - suc at) = omega arith in
-    let whole = sum_by-cons (λ (q : Proc). cond (coded.is_clocked q) 1 0) p procs in
-    let front = sum_by-cons (λ (q : Proc). cond (coded.is_clocked q) 1 0) p (take (n - suc at) procs) in
-    let taken : count_by coded.is_clocked (take (n - at) (p ∷ procs)) ≡ cond (coded.is_clocked p) 1 0 + count_by coded.is_clocked (take (n - suc at) procs) =
-    ap (λ (m : ℕ). count_by coded.is_clocked (take m (p ∷ procs))) step ∙ front in
+    let whole = sum_by-cons (λ (q : Proc). cond (is_clocked q) 1 0) p procs in
+    let front = sum_by-cons (λ (q : Proc). cond (is_clocked q) 1 0) p (take (n - suc at) procs) in
+    let taken : count_by is_clocked (take (n - at) (p ∷ procs)) ≡ cond (is_clocked p) 1 0 + count_by is_clocked (take (n - suc at) procs) =
+    ap (λ (m : ℕ). count_by is_clocked (take m (p ∷ procs))) step ∙ front in
     record { low = omega arith; fewer = omega arith }
 
 clocked_before : (at : ℕ) (procs : List Proc) (k : ℕ) → k < length (numbers_from at (λ c. c) (map is_clocked procs)) → Before at procs (slice_index (numbers_from at (λ c. c) (map is_clocked procs)) k)
@@ -86,9 +73,9 @@ clocked_before at (p ∷ procs) k less = either (clocked_before (suc at) procs) 
         → Before at (p ∷ procs) (slice_index (cond t (at ∷ numbers_from (suc at) (λ c. c) (map is_clocked procs)) (numbers_from (suc at) (λ c. c) (map is_clocked procs))) k)
     either others true e zero less =
         let none : at - at ≡ 0 = omega arith in
-        let whole = sum_by-cons (λ (q : Proc). cond (coded.is_clocked q) 1 0) p procs in
-        let here : cond {A = ℕ} (coded.is_clocked p) 1 0 ≡ 1 = ap (λ (t : Bool). cond {A = ℕ} t 1 0) (of_kind p.kind e) in
-        let taken : count_by coded.is_clocked (take (at - at) (p ∷ procs)) ≡ 0 = ap (λ (m : ℕ). count_by coded.is_clocked (take m (p ∷ procs))) none in
+        let whole = sum_by-cons (λ (q : Proc). cond (is_clocked q) 1 0) p procs in
+        let here : cond {A = ℕ} (is_clocked p) 1 0 ≡ 1 = ap (λ (t : Bool). cond {A = ℕ} t 1 0) e in
+        let taken : count_by is_clocked (take (at - at) (p ∷ procs)) ≡ 0 = ap (λ (m : ℕ). count_by is_clocked (take m (p ∷ procs))) none in
         record { low = omega arith; fewer = omega arith }
     either others true e (suc k) less = one_more at p procs (slice_index (numbers_from (suc at) (λ c. c) (map is_clocked procs)) k) (others k (omega arith))
     either others false e k less = one_more at p procs (slice_index (numbers_from (suc at) (λ c. c) (map is_clocked procs)) k) (others k less)
@@ -132,7 +119,7 @@ module _ (procs : List Proc) where
       let n = slice_index (clocked_procs (clocked_of procs)) k in
       let before = (clocked_before 0 procs k less).fewer in
       let same : n - 0 ≡ n = omega arith in
-      let counted : count_by coded.is_clocked (take (n - 0) procs) ≡ count_by coded.is_clocked (take n procs) = ap (λ (m : ℕ). count_by coded.is_clocked (take m procs)) same in
+      let counted : count_by is_clocked (take (n - 0) procs) ≡ count_by is_clocked (take n procs) = ap (λ (m : ℕ). count_by is_clocked (take m procs)) same in
       lt-ltb (code_number procs (node.Commit n)) (code_count procs) (omega arith))
 
   clocked_has : (numbers : List ℕ) (settle : List Node) → list_all has (map (λ p. node.Body p) numbers) ≡ true → list_all has (map (λ p. node.Commit p) numbers) ≡ true → list_all has settle ≡ true

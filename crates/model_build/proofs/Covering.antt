@@ -13,7 +13,7 @@ use Rattle.rtl_pieces.specs.Line.{Line, inside, has, place_of}
 use Rattle.rtl_pieces.specs.Bits.{line_in}
 use Rattle.rtl_pieces.specs.Cover.{places_of}
 use Rattle.rtl_pieces.specs.Words.{writer_of, word_of, element_words, item_words, words_from, shadow_if, shadows_of, is_clocked, pieces_of, pieces_in, words_in, Tiles, IsPiece}
-use Rattle.model_build.specs.Cuts.{IsCut}
+use Rattle.plan_types.specs.Cuts.{IsCut}
 use Rattle.model_build.specs.Touching.{is_in}
 
 -- ---- no piece is a shadow
@@ -39,7 +39,7 @@ elements_plain mem item pieces element zero = refl
 elements_plain mem item pieces element (suc many) =
     all_append is_plain (map (word_of mem item element) pieces) (element_words mem item pieces (suc element) many) (map_plain mem item element pieces) (elements_plain mem item pieces (suc element) many)
 
-words_plain : (writer : ℕ → Option ℕ) (vars number : ℕ) (items : List Item) → list_all is_plain (words_from writer vars number items) ≡ true
+pub words_plain : (writer : ℕ → Option ℕ) (vars number : ℕ) (items : List Item) → list_all is_plain (words_from writer vars number items) ≡ true
 words_plain writer vars number [] = refl
 words_plain writer vars number (item ∷ more) =
     all_append is_plain (if nat_lt number vars then item_words writer false number item else item_words writer true (number - vars) item) (words_from writer vars (suc number) more) (either (nat_lt number vars)) (words_plain writer vars (suc number) more)
@@ -48,7 +48,7 @@ words_plain writer vars number (item ∷ more) =
     either true = elements_plain false number (pieces_of writer item) 0 item.elements
     either false = elements_plain true (number - vars) (pieces_of writer item) 0 item.elements
 
-shadows_all : (line : Line) (procs : List Proc) (words : List Word) → list_all is_shadow (shadows_of line procs words) ≡ true
+pub shadows_all : (line : Line) (procs : List Proc) (words : List Word) → list_all is_shadow (shadows_of line procs words) ≡ true
 shadows_all line procs [] = refl
 shadows_all line procs (word ∷ more) =
     all_append is_shadow (shadow_if (is_clocked procs (writer_of line procs (place_of line word.holds))) word) (shadows_of line procs more) (one (is_clocked procs (writer_of line procs (place_of line word.holds)))) (shadows_all line procs more)

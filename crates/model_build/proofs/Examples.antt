@@ -41,10 +41,12 @@ use Rattle.plan_types.specs.declared.plan.ValidPlan.{ValidPlan}
 use Rattle.plan_types.specs.OneTask.{groups_of, first_tasks, lists_of, numbers_of}
 use Rattle.model_build.specs.declared.import.ImportUse.{ImportUse}
 use Rattle.model_build.specs.Names.{bit_name}
-use Rattle.model_build.specs.Drivers.{OneDriver, TwoDrivers}
+use Rattle.plan_types.specs.Drivers.{OneDriver}
+use Rattle.model_build.specs.Drivers.{TwoDrivers}
 use Rattle.model_build.specs.Imports.{uses_from, ids_of, AllAnswer, IsUnknown, IsUnsafe}
-use Rattle.model_build.specs.Cuts.{words_of}
-use Rattle.model_build.specs.Settle.{read_edges, settling_of, nodes_of, IsLoop}
+use Rattle.plan_types.specs.Cuts.{words_of}
+use Rattle.plan_types.specs.Settle.{read_edges, settling_of}
+use Rattle.model_build.specs.Settle.{nodes_of, IsLoop}
 use Rattle.model_build.specs.Touching.{is_in}
 use Rattle.model_build.specs.Costs.{commit_cost, node_cost}
 use Rattle.model_build.specs.Plans.{IsPlan}

@@ -16,11 +16,11 @@ use Rattle.logic_graph.specs.declared.ranges.Touched.{Touched}
 use Rattle.order_levels.specs.Serial.{numbers_from}
 use Rattle.logic_graph.specs.Reading.{has_word, meets, meet_somewhere, edge_to, edges_out_of, edges_of, OneWriter}
 use Rattle.logic_graph.specs.Reading as words
-use Rattle.model_build.specs.Drivers.{OneDriver}
-use Rattle.model_build.specs.Cuts.{IsCut}
+use Rattle.plan_types.specs.Drivers.{OneDriver}
+use Rattle.plan_types.specs.Cuts.{IsCut}
 use Rattle.task_code.specs.Compiled.{Each}
 use Rattle.model_build.specs.Touching.{IsTouched, WordsAre}
-use Rattle.model_build.specs.Settle.{some_below, feeds, edges_out, edges_from, read_edges, clocked_of, combs_of}
+use Rattle.plan_types.specs.Settle.{some_below, feeds, edges_out, edges_from, read_edges, clocked_of, combs_of}
 use Rattle.model_build.proofs.Covering.{Stands, places_with, places_in, covered, same_writer, has_bits, bit_in, word_in}
 
 -- ---- ranges meet where they have a word in common

@@ -9,7 +9,7 @@ use Rattle.order_levels.specs.Serial.{serial_nodes}
 use Rattle.task_eval.specs.Codes.{Ops}
 use Rattle.plan_types.specs.declared.plan.ValidPlan.{ValidPlan}
 use Rattle.plan_types.specs.Coded.{code_count, has_code}
-use Rattle.model_build.specs.Settle.{clocked_of, combs_of}
+use Rattle.plan_types.specs.Settle.{clocked_of, combs_of}
 use Rattle.model_build.specs.Plans.{IsPlan}
 use Rattle.model_build.proofs.Coding.{nodes_have}
 

@@ -7,9 +7,11 @@ use Rattle.plan_graph.specs.declared.node.Part.TheVariants as part
 use Rattle.model_build.specs.declared.import.ImportUse.{ImportUse}
 use Rattle.model_build.specs.declared.fault.BuildFault.{BuildFault}
 use Rattle.model_build.specs.declared.fault.BuildFault.TheVariants as fault
-use Rattle.model_build.specs.Drivers.{OneDriver, DriverRefusal}
+use Rattle.plan_types.specs.Drivers.{OneDriver}
+use Rattle.model_build.specs.Drivers.{DriverRefusal}
 use Rattle.model_build.specs.Imports.{ImportFault}
-use Rattle.model_build.specs.Settle.{FewNodes, ManyNodes, OrderFault, GraphRefusal, LoopRefusal, combs_of, read_edges, settling_of, nodes_of}
+use Rattle.plan_types.specs.Settle.{combs_of, read_edges, settling_of}
+use Rattle.model_build.specs.Settle.{FewNodes, ManyNodes, OrderFault, GraphRefusal, LoopRefusal, nodes_of}
 use Rattle.model_build.specs.Answer.{IsAccepted, FewWords, IsFault, LayFault, WordsFault}
 use Rattle.vs_base.specs.declared.limits.TheConstants.{NODES, EDGES}
 

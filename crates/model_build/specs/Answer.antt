@@ -7,10 +7,12 @@ use Rattle.rtl_ir.specs.declared.whole.Design.{Design}
 use Rattle.model_build.specs.declared.import.ImportUse.{ImportUse}
 use Rattle.model_build.specs.declared.fault.BuildFault.{BuildFault}
 use Rattle.model_build.specs.declared.fault.BuildFault.TheVariants as fault
-use Rattle.model_build.specs.Drivers.{OneDriver, TwoDrivers}
+use Rattle.plan_types.specs.Drivers.{OneDriver}
+use Rattle.model_build.specs.Drivers.{TwoDrivers}
 use Rattle.model_build.specs.Imports.{AllAnswer, IsUnknown, IsUnsafe}
-use Rattle.model_build.specs.Cuts.{words_of}
-use Rattle.model_build.specs.Settle.{FewNodes, ManyNodes, IsLoop, read_edges}
+use Rattle.plan_types.specs.Cuts.{words_of}
+use Rattle.plan_types.specs.Settle.{read_edges}
+use Rattle.model_build.specs.Settle.{FewNodes, ManyNodes, IsLoop}
 
 -- each bit has one driver at most, and no import is refused
 pub record IsAccepted (design : Design) (uses : List ImportUse) : Type 0 where

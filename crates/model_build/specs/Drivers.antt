@@ -1,5 +1,5 @@
 -- Which bit with two writers is refused.
-use Rattle.std.specs.Prelude.{◌≡◌, ℕ, true, List, Option, Some, None, slice_get, ⊤}
+use Rattle.std.specs.Prelude.{◌≡◌, ℕ, List, Option, Some, None, slice_get, ⊤}
 use Rattle.vs_base.specs.declared.origin.Origin.{Origin}
 use Rattle.rtl_ir.specs.declared.design.Proc.{Proc}
 use Rattle.rtl_ir.specs.declared.whole.Design.{Design}
@@ -9,10 +9,6 @@ use Rattle.rtl_pieces.specs.Drivers.{IsDouble}
 use Rattle.model_build.specs.Names.{bit_name}
 use Rattle.model_build.specs.declared.fault.BuildFault.{BuildFault}
 use Rattle.model_build.specs.declared.fault.BuildFault.TheVariants as fault
-
--- no bit has two writers
-pub record OneDriver (design : Design) : Type 0 where
-  pub single : (b p q : ℕ) → writes (line_in design) design.procs p b ≡ true → writes (line_in design) design.procs q b ≡ true → p ≡ q
 
 abbrev pub nowhere : Origin
 nowhere = record { file = 0; line = 0; col = 0 }

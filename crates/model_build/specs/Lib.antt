@@ -2,8 +2,8 @@ pub mod Names
 pub mod Drivers
 pub mod Imports
 pub mod Touching
+pub mod Reaching
 pub mod Settle
 pub mod Costs
-pub mod Cuts
 pub mod Answer
 pub mod Plans

@@ -6,7 +6,7 @@ use Rattle.order_levels.specs.Serial.{serial_nodes}
 use Rattle.task_eval.specs.Codes.{Ops}
 use Rattle.plan_types.specs.declared.plan.ValidPlan.{ValidPlan}
 use Rattle.plan_types.specs.OneTask.{groups_of, first_tasks, numbers_of, lists_of}
-use Rattle.model_build.specs.Settle.{clocked_of}
+use Rattle.plan_types.specs.Settle.{clocked_of}
 use Rattle.model_build.specs.Costs.{node_cost}
 
 -- The combinational processes run in the order of settling, which numbers them among themselves. No node has to wait for another, so the graph has no edge.

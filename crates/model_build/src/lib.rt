@@ -21,7 +21,7 @@
 //!
 //! # Terms
 //!
-//! A process *feeds* another one where some bit is written by the first and read by the second (`specs/Settle.antt`). The
+//! A process *feeds* another one where some bit is written by the first and read by the second (`specs/Settle.antt` of `plan_types`). The
 //! edges of the graph that is settled are these pairs, so a loop is one by bits, whatever their variables and words
 //! are. The code finds them by words: a word is read where a bit of it is, and written where a bit of it is
 //! (`specs/Touching.antt`). Both are the same, since the words cover the bits one behind the other and the bits of a word
@@ -34,17 +34,26 @@
 //! stands here is how they are joined, and the names of bits for messages. Each plan has one task, on thread 0, which runs
 //! its nodes in serial order; so no node has to wait for another, and the graphs of the plans have costs and no edges.
 //!
+//! Two things are tested and not shown of the crates that they come from: that no process writes an input port of the top, and that
+//! the code of each node touches only what the node may (`specs/Touches.antt` of `plan_types`), op by op. Of a design that elaboration gives
+//! both hold; one for which they do not is answered by want of memory, and no model is made of it. The elements that ops reach by an
+//! address are listed first and tested once each; where a process names a memory whole, by the first and the last word, since words
+//! stand in the order of their bits.
+//!
 //! # What is proved
 //!
 //! Each fault comes exactly where it holds and none before it does, and says the bit, the import, the kind or the places that
 //! its line in `specs/Answer.antt` says; at want of memory nothing is said. A model has the design that was given, the words of
 //! `cut`, the codes of `compile`, and two plans of the nodes in serial order (`specs/Plans.antt`), whose order of settling is that
-//! of `specs/Settle.antt`. What the type of a `Built` keeps is proved where it is made.
+//! of `specs/Settle.antt`. What the type of a `Built` keeps is proved where it is made: one writer a bit and none of an input, the
+//! cut, settling that does not stall, serial order, and codes that touch only what their nodes may.
 //!
 //! # Cost
 //!
 //! That of the calls, each linear in what it goes over or n log n, and for the costs of commits the number of clocked processes
-//! times that of processes, of which there are few thousands.
+//! times that of processes, of which there are few thousands. The test of a code takes its ops times the ranges of bits of its process
+//! and the memories that it reaches by an address, of which there are few, and once the elements of each memory that it stores so
+//! or does not name whole.
 //!
 //! ```text
 //! assign a = b; assign b = a;               a loop of both processes
@@ -60,9 +69,8 @@ mod import;
 mod model;
 mod name;
 mod plan;
+mod reach;
 mod settle;
-#[cfg(test)]
-mod tests;
 mod touched;
 
 pub use fault::BuildFault;

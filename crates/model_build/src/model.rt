@@ -1,6 +1,7 @@
 //! From a design to a model.
 
 ghost use Rattle.std.specs.Prelude.{◌≡◌, ◌≤◌, ◌<◌, ◌^◌, ◌||◌, ℕ, List, nat_le, length, take, drop, map, true, false, unwrap_or, IfOk, IfErr, OnOk};
+ghost use Rattle.std.specs.List.{list_all};
 ghost use Rattle.rtl_pieces.specs.Bits.{line_in, writes};
 ghost use Rattle.rtl_pieces.specs.Line.{place_of};
 ghost use Rattle.plan_graph.specs.declared.node.Part.TheVariants as part;
@@ -10,9 +11,11 @@ ghost use Rattle.plan_types.specs.OneTask.{groups_of, lists_of};
 ghost use Rattle.plan_types.specs.Coded.{AllWithin, code_count};
 ghost use Rattle.model_build.specs.Answer.{IsAccepted, IsFault, LayFault, WordsFault, FewWords};
 ghost use Rattle.model_build.specs.Imports as imports;
-ghost use Rattle.model_build.specs.Drivers.{OneDriver};
-ghost use Rattle.model_build.specs.Cuts.{IsCut, words_of};
-ghost use Rattle.model_build.specs.Settle.{OrderFault, Settles, clocked_of as clocked_in};
+ghost use Rattle.plan_types.specs.Drivers.{OneDriver, FreeInputs};
+ghost use Rattle.plan_types.specs.Touches.{keeps_to_its_own};
+ghost use Rattle.plan_types.specs.Cuts.{IsCut, words_of};
+ghost use Rattle.plan_types.specs.Settle.{clocked_of as clocked_in};
+ghost use Rattle.model_build.specs.Settle.{OrderFault, Settles};
 ghost use Rattle.model_build.specs.Costs.{node_cost};
 ghost use Rattle.model_build.specs.Plans.{IsPlan};
 
@@ -21,12 +24,13 @@ use crate::driver::check_drivers;
 use crate::fault::BuildFault;
 use crate::import::{ImportUse, check_uses, deemed_of, ids_of, uses_of};
 use crate::plan::{Serial, plan_of};
+use crate::reach::{Ground, called_of, check_touch};
 use crate::settle::{clocked_of, settle_order};
 use dpi_host::{Host, Mode};
 use plan_graph::Part;
 use plan_types::{Built, ValidPlan};
 use rtl_ir::Design;
-use rtl_pieces::{CutFault, Layout, cut};
+use rtl_pieces::{BitLine, CutFault, Layout, cut};
 use sqlite_items::Items;
 use std::alloc::{AllocError, Global};
 use task_eval::Code;
@@ -57,7 +61,7 @@ pub fn build<H: Host>(
 {
     let uses = accepted_uses(alloc, &design, mode, host)?;
     let laid = lay_out(alloc, &design)?;
-    let parts = parts_of(alloc, &design, &laid, uses.as_slice())?;
+    let parts = tested_parts(alloc, &design, &laid, uses.as_slice())?;
     Ok(Built {
         design,
         layout: laid.layout,
@@ -79,6 +83,7 @@ fn accepted_uses<H: Host>(
 ) -> Result<Vec<ImportUse>, BuildFault>
     ensures uses { IfOk result (λ uses. uses.items ≡ imports.uses_of (H.id_of (H.fixed host.now)) (H.by_args (H.fixed host.now)) mode design.now) }
     ensures accepted { IfOk result (λ uses. IsAccepted design.now uses.items) }
+    ensures inputs { OnOk result (FreeInputs design.now) }
     ensures procs { OnOk result (length design.now.procs < 2 ^ 32) }
     ensures vars { OnOk result (length design.now.vars < 2 ^ 32) }
     ensures mems { OnOk result (length design.now.mems < 2 ^ 32) }
@@ -212,6 +217,46 @@ fn parts_of(
         deemed: told.deemed,
         ids: told.ids,
     })
+}
+
+// The same, where the code of each node touches only what the node may.
+fn tested_parts(
+    alloc: Global,
+    design: &Design,
+    laid: &Laid,
+    uses: &[ImportUse],
+) -> Result<Parts, AllocError>
+    requires clocked { laid.now.clocked.items ≡ clocked_in design.now.procs }
+    requires order { Settles design.now laid.now.order.items }
+    requires words { IsCut design.now laid.now.layout.words.items }
+    ensures settle { IfOk result (λ parts. IsPlan design.now.procs laid.now.codes laid.now.order.items part.Settle parts.settle) }
+    ensures clocked { IfOk result (λ parts. IsPlan design.now.procs laid.now.codes laid.now.order.items part.Clocked parts.clocked) }
+    ensures deemed { IfOk result (λ parts. parts.deemed ≡ map (λ u. u.deemed) uses.now) }
+    ensures ids { IfOk result (λ parts. parts.ids ≡ map (λ u. unwrap_or u.id 0) uses.now) }
+    ensures settle_keeps { IfOk result (λ parts. list_all (keeps_to_its_own design.now laid.now.layout.words.items laid.now.codes) parts.settle.nodes ≡ true) }
+    ensures clocked_keeps { IfOk result (λ parts. list_all (keeps_to_its_own design.now laid.now.layout.words.items laid.now.codes) parts.clocked.nodes ≡ true) }
+{
+    let parts = parts_of(alloc, design, laid, uses)?;
+    check_parts(alloc, design, laid, &parts)?;
+    Ok(parts)
+}
+
+fn check_parts(alloc: Global, design: &Design, laid: &Laid, parts: &Parts) -> Result<(), AllocError>
+    requires words { IsCut design.now laid.now.layout.words.items }
+    ensures settle { OnOk result (list_all (keeps_to_its_own design.now laid.now.layout.words.items laid.now.codes) parts.now.settle.nodes ≡ true) }
+    ensures clocked { OnOk result (list_all (keeps_to_its_own design.now laid.now.layout.words.items laid.now.codes) parts.now.clocked.nodes ≡ true) }
+{
+    let line = BitLine::new(alloc, design)?;
+    let called = called_of(alloc, design)?;
+    let ground = Ground {
+        design,
+        codes: laid.codes.as_slice(),
+        words: laid.layout.words.as_slice(),
+        line: &line,
+        called: called.as_slice(),
+    };
+    check_touch(alloc, &ground, parts.settle.nodes.as_slice())?;
+    check_touch(alloc, &ground, parts.clocked.nodes.as_slice())
 }
 
 #[derive(Drop)]

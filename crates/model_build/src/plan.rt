@@ -4,7 +4,7 @@ ghost use Rattle.std.specs.Prelude.{◌≡◌, length, map, nat_lt, true, IfOk};
 ghost use Rattle.std.specs.List.{list_all};
 ghost use Rattle.std.specs.Option.{option_copied};
 ghost use Rattle.plan_types.specs.Coded.{code_number};
-ghost use Rattle.model_build.specs.Settle.{combs_of, clocked_of as clocked_in};
+ghost use Rattle.plan_types.specs.Settle.{combs_of, clocked_of as clocked_in};
 ghost use Rattle.model_build.specs.Plans.{IsPlan};
 ghost use Rattle.model_build.specs.Costs as spec;
 
@@ -75,8 +75,8 @@ fn node_cost(serial: Serial<'_>, node: Node) -> u32
     }
 }
 
-// The number of the code of a commit.
-fn commit_number(procs: &[Proc], proc: u32) -> usize
+/// The number of the code of a commit.
+pub(crate) fn commit_number(procs: &[Proc], proc: u32) -> usize
     ensures { result ≡ code_number procs.now (Node.Commit proc) }
 {
     let before = procs.get(..proc as usize).unwrap_or(procs);

@@ -8,9 +8,11 @@ ghost use Rattle.order_levels.specs.Serial.{comb_procs};
 ghost use Rattle.order_levels.specs.Sets.{all_below};
 ghost use Rattle.order_levels.specs.Settling.{settling, InOrder};
 ghost use Rattle.logic_graph.specs.Reading.{edges_of, OneWriter};
+ghost use Rattle.plan_types.specs.Coded.{is_clocked as is_clocked_in};
+ghost use Rattle.plan_types.specs.Settle as shared;
 ghost use Rattle.model_build.specs.Settle as spec;
-ghost use Rattle.model_build.specs.Drivers.{OneDriver};
-ghost use Rattle.model_build.specs.Cuts.{IsCut};
+ghost use Rattle.plan_types.specs.Drivers.{OneDriver};
+ghost use Rattle.plan_types.specs.Cuts.{IsCut};
 ghost use Rattle.task_code.specs.Compiled.{Each};
 ghost use Rattle.model_build.specs.Touching.{IsTouched};
 
@@ -30,7 +32,7 @@ use vs_base::limits::Kind;
 
 /// Of each process whether it is clocked.
 pub(crate) fn clocked_of(alloc: Global, procs: &[Proc]) -> Result<Vec<bool>, AllocError>
-    ensures { IfOk result (λ marks. marks.items ≡ spec.clocked_of procs.now) }
+    ensures { IfOk result (λ marks. marks.items ≡ shared.clocked_of procs.now) }
 {
     let mut marks = Vec::new(alloc);
     for process in procs {
@@ -40,7 +42,7 @@ pub(crate) fn clocked_of(alloc: Global, procs: &[Proc]) -> Result<Vec<bool>, All
 }
 
 pub(crate) fn is_clocked(process: &Proc) -> bool
-    ensures { result ≡ spec.is_clocked process.now }
+    ensures { result ≡ is_clocked_in process.now }
 {
     matches!(process.kind, ProcKind::Clocked(_))
 }
@@ -71,7 +73,7 @@ pub(crate) fn settle_order(
     layout: &Layout,
     clocked: &[bool],
 ) -> Result<Vec<u32>, BuildFault>
-    requires marks { clocked.now ≡ spec.clocked_of design.now.procs }
+    requires marks { clocked.now ≡ shared.clocked_of design.now.procs }
     requires few { length design.now.procs < 2 ^ 32 }
     requires one_driver { OneDriver design.now }
     requires layout { IsCut design.now layout.now.words.items }
@@ -93,13 +95,13 @@ pub(crate) fn read_graph(
     layout: &Layout,
     combs: &[u32],
 ) -> Result<Graph, BuildFault>
-    requires combs { combs.now ≡ spec.combs_of design.now.procs }
+    requires combs { combs.now ≡ shared.combs_of design.now.procs }
     requires one_driver { OneDriver design.now }
     requires layout { IsCut design.now layout.now.words.items }
     ensures nodes { IfOk result (λ graph. length graph.costs ≡ length combs.now) }
-    ensures edges { IfOk result (λ graph. graph.edges ≡ spec.read_edges design.now) }
-    ensures few { OnOk result (length (spec.read_edges design.now) ≤ EDGES) }
-    ensures refused { IfErr result (spec.GraphRefusal (spec.read_edges design.now)) }
+    ensures edges { IfOk result (λ graph. graph.edges ≡ shared.read_edges design.now) }
+    ensures few { OnOk result (length (shared.read_edges design.now) ≤ EDGES) }
+    ensures refused { IfErr result (spec.GraphRefusal (shared.read_edges design.now)) }
 {
     let touched = words_touched(alloc, design, layout, combs)?;
     let costs = costs_of(alloc, design.procs.as_slice(), combs)?;

@@ -1,5 +1,5 @@
 -- A model of a few words, and what the terms say of it.
-use Rattle.std.proofs.Common.{◌≡◌, ℕ, List, [], ◌∷◌, true, false, None, refl}
+use Rattle.std.proofs.Common.{◌≡◌, ℕ, List, [], ◌∷◌, true, false, Some, None, refl}
 use Rattle.rtl_pieces.specs.declared.layout.Word.{Word}
 use Rattle.rtl_ir.specs.declared.design.Port.{Port}
 use Rattle.rtl_ir.specs.declared.design.Event.{Event}
@@ -7,18 +7,20 @@ use Rattle.rtl_ir.specs.declared.design.Proc.{Proc}
 use Rattle.rtl_ir.specs.declared.design.ProcKind.{ProcKind}
 use Rattle.rtl_ir.specs.declared.design.ProcKind.TheVariants.{Comb, Clocked}
 use Rattle.plan_graph.specs.declared.node.Edge.{Edge}
+use Rattle.plan_graph.specs.declared.node.Node.{Node}
 use Rattle.plan_graph.specs.declared.node.Node.TheVariants as node
 use Rattle.vs_base.specs.Number.{Number}
 use Rattle.dpi_host.specs.Calls.{Call}
 use Rattle.dpi_host.specs.HostMachine.{Answer, After}
 use Rattle.task_eval.specs.Codes.{Ops}
 use Rattle.task_eval.specs.declared.op.Op.TheVariants as op
+use Rattle.task_eval.specs.declared.op.One.TheVariants as one
 use Rattle.task_eval.specs.Buses.{Outside, stored, called}
 use Rattle.plan_types.specs.declared.input.InputWord.{InputWord}
 use Rattle.plan_types.specs.Plans.{ascends, group_edges, keeps}
-use Rattle.plan_types.specs.Machine.{event_word, input_vars, input_words, put_inputs, is_edge, kind_fires, fired_of, is_run, run_nodes, kept_deeds, value_from}
+use Rattle.plan_types.specs.Machine.{event_word, input_vars, input_words, put_inputs, is_edge, kind_fires, fired_of, is_run, run_nodes, ended, rounds, kept_deeds, value_from}
 use Rattle.plan_types.specs.Coded.{code_number}
-use Rattle.plan_types.specs.Costs.{node_cost}
+use Rattle.plan_types.specs.Room.{calls_if}
 
 -- ---- plans
 
@@ -151,12 +153,6 @@ second_commit = refl
 only_one_fires : fired_of procs words (0 ∷ 0 ∷ 0 ∷ 0 ∷ 0 ∷ []) (0 ∷ 2 ∷ 0 ∷ 1 ∷ 0 ∷ []) ≡ false ∷ true ∷ false ∷ []
 only_one_fires = refl
 
-commit_of_three_shadows : node_cost procs (0 ∷ 3 ∷ 0 ∷ []) (node.Commit 1) ≡ 3
-commit_of_three_shadows = refl
-
-empty_body_costs_one : node_cost procs (0 ∷ 3 ∷ 0 ∷ []) (node.Body 1) ≡ 1
-empty_body_costs_one = refl
-
 -- process 1 copies word 2 to word 1, and process 2 copies word 1 to word 2, by the shadows 3 and 4
 abbrev copy : ℕ → ℕ → Ops
 copy from into = record { ops = op.Load from 8 ∷ op.Store into 8 ∷ []; stack = 1 }
@@ -174,3 +170,59 @@ exchanged answer after = refl
 -- and a process that did not fire writes nothing
 one_alone : (answer : Answer) (after : After) → run_nodes answer after procs codes (false ∷ true ∷ false ∷ []) (node.Body 1 ∷ node.Body 2 ∷ node.Commit 1 ∷ node.Commit 2 ∷ []) (values_only (0 ∷ 5 ∷ 9 ∷ 0 ∷ 0 ∷ [])) ≡ values_only (0 ∷ 9 ∷ 9 ∷ 9 ∷ 0 ∷ [])
 one_alone answer after = refl
+
+-- ---- rounds: variable 0 is a clock in word 1, variables 1 and 2 are flip-flops in the words 2 and 3, with shadows in 4 and 5
+
+abbrev flops : List Word
+flops = word 0 0 0 ∷ word 0 0 1 ∷ word 1 0 1 ∷ word 2 0 1 ∷ shadow 1 1 ∷ shadow 2 1 ∷ []
+
+-- process 0 toggles the first flip-flop where the clock rises, and process 1 the second where the first rises
+abbrev ripple : List Proc
+ripple = proc (Clocked (rising 0 ∷ [])) ∷ proc (Clocked (rising 1 ∷ [])) ∷ []
+
+abbrev toggle : ℕ → ℕ → Ops
+toggle from into = record { ops = op.Load from 1 ∷ op.One one.Invert ∷ op.Store into 1 ∷ []; stack = 1 }
+
+abbrev move_bit : ℕ → ℕ → Ops
+move_bit from into = record { ops = op.Load from 1 ∷ op.Store into 1 ∷ []; stack = 1 }
+
+abbrev flop_codes : List Ops
+flop_codes = toggle 2 4 ∷ toggle 3 5 ∷ move_bit 4 2 ∷ move_bit 5 3 ∷ []
+
+abbrev flop_nodes : List Node
+flop_nodes = node.Body 0 ∷ node.Body 1 ∷ node.Commit 0 ∷ node.Commit 1 ∷ []
+
+-- the clock has risen: it toggles the first, which rises and toggles the second, and then nothing fires
+ripples : (answer : Answer) (after : After) → rounds answer after ripple flop_codes flops flop_nodes 2 (0 ∷ 0 ∷ 0 ∷ 0 ∷ 0 ∷ 0 ∷ []) (values_only (0 ∷ 1 ∷ 0 ∷ 0 ∷ 0 ∷ 0 ∷ [])) ≡ ended true (values_only (0 ∷ 1 ∷ 1 ∷ 1 ∷ 1 ∷ 1 ∷ []))
+ripples answer after = refl
+
+-- with one run fewer it has not converged: the second flip-flop still fires, and does not run
+cut_short : (answer : Answer) (after : After) → rounds answer after ripple flop_codes flops flop_nodes 1 (0 ∷ 0 ∷ 0 ∷ 0 ∷ 0 ∷ 0 ∷ []) (values_only (0 ∷ 1 ∷ 0 ∷ 0 ∷ 0 ∷ 0 ∷ [])) ≡ ended false (values_only (0 ∷ 1 ∷ 1 ∷ 0 ∷ 1 ∷ 0 ∷ []))
+cut_short answer after = refl
+
+-- the first flip-flop falls, which is no event of the second; an event of one test is none of the next
+falls_once : (answer : Answer) (after : After) → rounds answer after ripple flop_codes flops flop_nodes 7 (0 ∷ 0 ∷ 1 ∷ 1 ∷ 1 ∷ 1 ∷ []) (values_only (0 ∷ 1 ∷ 1 ∷ 1 ∷ 1 ∷ 1 ∷ [])) ≡ ended true (values_only (0 ∷ 1 ∷ 0 ∷ 1 ∷ 0 ∷ 1 ∷ []))
+falls_once answer after = refl
+
+-- nothing fires, and nothing runs
+quiet : (answer : Answer) (after : After) → rounds answer after ripple flop_codes flops flop_nodes 7 (0 ∷ 1 ∷ 1 ∷ 1 ∷ 1 ∷ 1 ∷ []) (values_only (0 ∷ 1 ∷ 1 ∷ 1 ∷ 1 ∷ 1 ∷ [])) ≡ ended true (values_only (0 ∷ 1 ∷ 1 ∷ 1 ∷ 1 ∷ 1 ∷ []))
+quiet answer after = refl
+
+-- one process toggles the first flip-flop at each of its own edges
+abbrev oscillator : List Proc
+oscillator = proc (Clocked (rising 1 ∷ record { var = 1; rising = false } ∷ [])) ∷ []
+
+abbrev own_codes : List Ops
+own_codes = toggle 2 4 ∷ move_bit 4 2 ∷ []
+
+-- it never converges, however often it runs: after one run it stands at 0, after two at 1
+runs_once : (answer : Answer) (after : After) → rounds answer after oscillator own_codes flops (node.Body 0 ∷ node.Commit 0 ∷ []) 1 (0 ∷ 0 ∷ 0 ∷ 0 ∷ 0 ∷ 0 ∷ []) (values_only (0 ∷ 0 ∷ 1 ∷ 0 ∷ 0 ∷ 0 ∷ [])) ≡ ended false (values_only (0 ∷ 0 ∷ 0 ∷ 0 ∷ 0 ∷ 0 ∷ []))
+runs_once answer after = refl
+
+runs_twice : (answer : Answer) (after : After) → rounds answer after oscillator own_codes flops (node.Body 0 ∷ node.Commit 0 ∷ []) 2 (0 ∷ 0 ∷ 0 ∷ 0 ∷ 0 ∷ 0 ∷ []) (values_only (0 ∷ 0 ∷ 1 ∷ 0 ∷ 0 ∷ 0 ∷ [])) ≡ ended false (values_only (0 ∷ 0 ∷ 1 ∷ 0 ∷ 1 ∷ 0 ∷ []))
+runs_twice answer after = refl
+
+-- ---- the room of calls: import 0 is deemed safe
+
+two_of_three : calls_if (true ∷ false ∷ []) (Some (record { ops = op.Call 1 0 8 ∷ op.Call 0 1 8 ∷ op.Call 1 1 8 ∷ op.Store 2 8 ∷ []; stack = 1 })) ≡ 2
+two_of_three = refl

@@ -1,2 +1,3 @@
 pub mod Whole
 mod Examples
+mod BuiltExamples

@@ -1,20 +1,15 @@
 -- Which code a node runs, and when a model has one for each.
-use Rattle.std.specs.Prelude.{◌+◌, ℕ, Bool, true, false, nat_lt, List, [], ◌∷◌, take, length}
+use Rattle.std.specs.Prelude.{◌+◌, ℕ, Bool, nat_lt, List, [], ◌∷◌, take, length}
 use Rattle.std.specs.List.{count_by}
 use Rattle.std.proofs.Props.{props}
 use Rattle.rtl_ir.specs.declared.design.Proc.{Proc}
-use Rattle.rtl_ir.specs.declared.design.ProcKind.{ProcKind}
-use Rattle.rtl_ir.specs.declared.design.ProcKind.TheVariants.{Comb, Clocked}
+use Rattle.rtl_pieces.specs.Words.{is_clocked_kind}
 use Rattle.plan_graph.specs.declared.node.Node.{Node}
 use Rattle.plan_graph.specs.declared.node.Node.TheVariants as node
 use Rattle.task_eval.specs.Codes.{Ops}
 use Rattle.task_eval.specs.declared.op.Op.{Op}
 use Rattle.task_eval.specs.declared.op.Op.TheVariants as op
 use Rattle.task_eval.specs.Soundness.{OpWithin, IsWithin}
-
-abbrev pub is_clocked_kind : ProcKind → Bool
-is_clocked_kind Comb = false
-is_clocked_kind (Clocked events) = true
 
 abbrev pub is_clocked : Proc → Bool
 is_clocked p = is_clocked_kind p.kind

@@ -1,5 +1,12 @@
 pub mod Plans
 pub mod Machine
 pub mod Coded
+pub mod Drivers
+pub mod Cuts
+pub mod Settle
+pub mod Touches
+pub mod TouchLaws
+pub mod Room
+pub mod RoomLaws
+pub mod RoundLaws
 pub mod OneTask
-pub mod Costs

@@ -1,5 +1,5 @@
 -- What a run of a compiled model means, on words and codes alone.
-use Rattle.std.specs.Prelude.{◌≡◌, ◌==◌, ℕ, suc, Bool, true, false, ◌&&◌, not, if◌then◌else◌, nat_lt, List, [], ◌∷◌, ◌++◌, map, slice_get, slice_set, slice_index, slice_index_or, Option, Some, None, pos}
+use Rattle.std.specs.Prelude.{◌≡◌, ◌==◌, ℕ, zero, suc, Bool, true, false, ◌&&◌, not, if◌then◌else◌, nat_lt, List, [], ◌∷◌, ◌++◌, map, slice_get, slice_set, slice_index, slice_index_or, Option, Some, None, pos}
 use Rattle.std.specs.List.{list_any, fold}
 use Rattle.vs_base.specs.Number.{Number, kept, sliced, placed}
 use Rattle.vs_base.specs.declared.types.ValueType.{ValueType}
@@ -23,8 +23,8 @@ use Rattle.plan_types.specs.Coded.{code_number}
 use Rattle.plan_types.specs.declared.input.InputWord.{InputWord}
 use Rattle.plan_types.specs.declared.built.Built.{Built}
 
--- A model between two evals: its words, the host and the imports, the words at the end of the eval before, and the calls of that eval
--- that are kept. What the outside tells of stores and calls is that of an eval under way, and between two of them there is none.
+-- A model between two evals: its words, the host and the imports, the words at the last test of what fired, and the calls of the eval
+-- before that are kept. What the outside tells of stores and calls is that of an eval under way, and between two of them there is none.
 pub record Machine : Type 0 where
   pub outside : Outside
   pub last : List ℕ
@@ -150,6 +150,23 @@ abbrev pub kept_calls : List Bool → Option (List Deed) → List Call
 kept_calls deemed (Some made) = kept_deeds deemed made
 kept_calls deemed None = []
 
+-- ---- rounds
+
+abbrev pub some_fired : List Bool → Bool
+some_fired fired = list_any (λ (f : Bool). f) fired
+
+-- how often the clocked nodes may run in one eval
+unfoldable pub most_runs : ℕ
+most_runs = 99
+
+-- where an eval ends: whether nothing fired any more, and what stands then
+pub record Ended : Type 0 where
+  pub converged : Bool
+  pub outside : Outside
+
+abbrev pub ended : Bool → Outside → Ended
+ended converged o = record { converged = converged; outside = o }
+
 -- ---- an eval, on a host that answers so, and moves its state so
 
 module _ (answer : Answer) (after : After) where
@@ -168,12 +185,17 @@ module _ (answer : Answer) (after : After) where
         made = Some [];
       })
 
-  -- where a process fired, those that did run, and the combinational processes settle again
-  abbrev pub clocked_if : Built → List Bool → Outside → Outside
-  clocked_if b fired o = if list_any (λ (f : Bool). f) fired then run_nodes b.design.procs b.codes fired b.clocked.nodes o else o
+  -- Rounds of these clocked nodes, of which the last is a test alone. A round tests which processes fire from the words at the test
+  -- before to those of now. Where one does, those that fired run, and the combinational ones settle again; otherwise the eval ends.
+  module _ (procs : List Proc) (codes : List Ops) (words : List Word) (nodes : List Node) where
+    abbrev pub rounds : ℕ → List ℕ → Outside → Ended
+    rounds zero last o = ended (not (some_fired (fired_of procs words last o.words))) o
+    rounds (suc n) last o =
+        if some_fired (fired_of procs words last o.words) then rounds n o.words (run_nodes procs codes (fired_of procs words last o.words) nodes o) else ended true o
 
-  abbrev pub clocked : Built → List ℕ → Outside → Outside
-  clocked b last o = clocked_if b (fired_of b.design.procs b.layout.words.items last o.words) o
+  -- where an eval ends
+  abbrev pub ends : Built → List Number → Machine → Ended
+  ends b inputs m = rounds b.design.procs b.codes b.layout.words.items b.clocked.nodes most_runs m.last (settled b inputs m.outside)
 
   -- an eval is at its end
   abbrev pub closed : Built → Outside → Machine
@@ -181,7 +203,11 @@ module _ (answer : Answer) (after : After) where
 
   -- one eval
   abbrev pub evaluated : Built → List Number → Machine → Machine
-  evaluated b inputs m = closed b (clocked b m.last (settled b inputs m.outside))
+  evaluated b inputs m = closed b (ends b inputs m).outside
+
+  -- it ends where nothing fires any more, and not for the number of its rounds
+  abbrev pub converges : Built → List Number → Machine → Bool
+  converges b inputs m = (ends b inputs m).converged
 
 -- ---- the opening
 

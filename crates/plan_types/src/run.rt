@@ -12,10 +12,13 @@ pub struct RunNow {
     pub fired: Vec<bool>,
 }
 
+/// How often the clocked nodes may run in one eval. What still fires after that does not converge.
+pub const MOST_RUNS: u32 = 99;
+
 /// Why an eval was given up.
 #[derive(Clone, Copy, Debug, PartialEq, Eq, Error)]
 pub enum RunFault {
-    /// There was no memory left.
-    #[error("out of memory")]
-    NoMemory,
+    /// A process still fired when the clocked nodes had run as often as they may.
+    #[error("not converged")]
+    NotConverged,
 }

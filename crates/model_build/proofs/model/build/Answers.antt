@@ -1,6 +1,8 @@
-use Rattle.std.proofs.Common.{◌≡◌, ℕ, length, sym, subst}
+use Rattle.std.proofs.Common.{◌≡◌, ◌∙◌, ℕ, List, ap, length, sym, subst}
 use Rattle.plan_graph.specs.declared.node.Part.TheVariants as part
+use Rattle.order_levels.specs.Serial.{serial_nodes}
 use Rattle.plan_types.specs.Coded.{AllWithin}
+use Rattle.plan_types.specs.Settle.{clocked_of, is_in_order, order_of}
 use Rattle.model_build.proofs.Planned.{plan_has_codes}
 use Rattle.model_build.proofs.Uses.{deemed_told, ids_told, deemed_count, ids_count}
 use Rattle.model_build.proofs.model.build.Goals as goal
@@ -32,4 +34,12 @@ invariant_of-result g c =
       ids_each = each_id;
       settle_codes = plan_has_codes c.args.design.procs c.in_ok-laid.laid.codes c.in_ok-laid.laid.order.items part.Settle c.in_ok-parts.parts.settle c.in_ok-laid.ensures.count c.in_ok-laid.ensures.order.within c.in_ok-parts.ensures.settle;
       clocked_codes = plan_has_codes c.args.design.procs c.in_ok-laid.laid.codes c.in_ok-laid.laid.order.items part.Clocked c.in_ok-parts.parts.clocked c.in_ok-laid.ensures.count c.in_ok-laid.ensures.order.within c.in_ok-parts.ensures.clocked;
+      one_driver = c.in_ok-uses.ensures.accepted.drivers;
+      free_inputs = c.in_ok-uses.ensures.inputs;
+      is_cut = c.in_ok-laid.ensures.words;
+      settled = ap is_in_order c.in_ok-laid.ensures.order.in_order;
+      settle_serial = c.in_ok-parts.ensures.settle.nodes ∙ ap (λ (order : List ℕ). serial_nodes (clocked_of c.args.design.procs) order part.Settle) (sym (ap order_of c.in_ok-laid.ensures.order.in_order));
+      clocked_serial = c.in_ok-parts.ensures.clocked.nodes ∙ ap (λ (order : List ℕ). serial_nodes (clocked_of c.args.design.procs) order part.Clocked) (sym (ap order_of c.in_ok-laid.ensures.order.in_order));
+      settle_keeps = c.in_ok-parts.ensures.settle_keeps;
+      clocked_keeps = c.in_ok-parts.ensures.clocked_keeps;
     }

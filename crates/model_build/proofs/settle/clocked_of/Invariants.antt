@@ -1,5 +1,5 @@
 use Rattle.std.proofs.Common.{◌≡◌, map, take}
-use Rattle.model_build.specs.Settle.{is_clocked}
+use Rattle.plan_types.specs.Coded.{is_clocked}
 use Rattle.model_build.proofs.settle.clocked_of.Given as goal
 
 abbrev pub invariant-loop-process : goal.invariant-loop-process

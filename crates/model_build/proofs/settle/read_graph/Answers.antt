@@ -7,7 +7,8 @@ use Rattle.rtl_pieces.specs.Bits.{line_in}
 use Rattle.rtl_pieces.specs.Cover.{places_of}
 use Rattle.logic_graph.specs.declared.ranges.Touched.{Touched}
 use Rattle.logic_graph.specs.Reading.{edges_of, OneWriter}
-use Rattle.model_build.specs.Settle.{read_edges, cost_of, GraphRefusal}
+use Rattle.plan_types.specs.Settle.{read_edges}
+use Rattle.model_build.specs.Settle.{cost_of, GraphRefusal}
 use Rattle.model_build.specs.Touching.{IsTouched}
 use Rattle.model_build.proofs.Feeding.{edges_same, one_writer, each_length}
 use Rattle.model_build.proofs.settle.read_graph.Goals as goal
