@@ -11,8 +11,8 @@
 //! - *Equal*: contracts see a list as its items, a box as what it holds and a text as its bytes, so trees that stand in different
 //!   memory are one value where they hold the same. The words of a layout stand in a plain `Vec`, whose value has its block of
 //!   memory in it: there the items are equal, and the layouts are not.
-//! - A model *runs as* another where on every host and from every state the opening, each eval and the values that a reader sees
-//!   are the other's (`specs/Copies.antt`).
+//! - A model *runs as* another where on every host and from every state the opening, each eval, whether it converges, and the values
+//!   that a reader sees are the other's, and the room of the calls that an eval can keep (`specs/Copies.antt`).
 //!
 //! # How it is copied
 //!

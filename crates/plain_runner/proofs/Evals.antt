@@ -1,6 +1,5 @@
 -- What a run on one thread does is what a run of the model means.
-use Rattle.std.proofs.Common.{◌≡◌, ℕ, Bool, true, false, cond, List, [], ◌∷◌, ◌++◌, slice_index, Some, refl, sym, ap, subst, ◌∙◌}
-use Rattle.std.specs.List.{list_any}
+use Rattle.std.proofs.Common.{◌≡◌, ℕ, zero, suc, ◌≤◌, Bool, true, false, not, cond, List, [], ◌∷◌, ◌++◌, length, slice_index, Some, refl, sym, ap, subst, ◌∙◌, le_trans}
 use Rattle.vs_base.specs.Number.{Number}
 use Rattle.rtl_ir.specs.declared.design.Proc.{Proc}
 use Rattle.plan_graph.specs.declared.node.Node.{Node}
@@ -10,9 +9,14 @@ use Rattle.task_eval.specs.Codes.{Ops}
 use Rattle.task_eval.specs.Course.{Course, finished, loading, storing, calling}
 use Rattle.task_eval.specs.Buses.{Outside, Deed, stored, called, run}
 use Rattle.plan_types.specs.Coded.{code_number}
-use Rattle.plan_types.specs.Machine.{Machine, is_run, course_at, kept_deed, kept_deeds, put_inputs, input_words, fired_of, run_node, run_nodes, settled, clocked_if, clocked, closed, evaluated}
+use Rattle.plan_types.specs.Machine.{Machine, is_run, course_at, kept_deed, kept_deeds, put_inputs, input_words, fired_of, some_fired, run_node, run_nodes, settled, Ended, ended, rounds, ends, closed, most_runs, evaluated, converges}
+use Rattle.plan_types.specs.declared.run.TheConstants.{MOST_RUNS}
+use Rattle.plan_types.specs.Room.{call_room}
+use Rattle.plan_types.specs.RoomLaws.{kept_few}
+use Rattle.plan_types.specs.RoundLaws.{most}
 use Rattle.plan_types.specs.declared.built.Built.{Built}
-use Rattle.plain_runner.specs.Seen.{Seen, seen_of, Env, env_of, machine_of, reply_in, call_in, store_in, go, go_node, go_nodes, settled_in, clocked_in}
+use Rattle.plain_runner.proofs.Grows.{rounds_grow}
+use Rattle.plain_runner.specs.Seen.{Seen, seen_of, Env, env_of, machine_of, reply_in, call_in, store_in, go, go_node, go_nodes, settled_in, SeenEnd, seen_end, rounds_in}
 
 append_none : (calls : List Call) → calls ++ [] ≡ calls
 append_none [] = refl
@@ -66,40 +70,102 @@ module _ (answer : Answer) (after : After) (env : Env) where
       let words : List ℕ = put_inputs inputs (input_words b.design.ports b.layout.words.items) s.words in
       shows_nodes b.design.procs b.codes [] b.settle.nodes (outside_of (seen_of words s.state []) []) (seen_of words s.state []) (record { made = []; same = refl; calls = refl })
 
-  shows_clocked_if : (b : Built) (fired : List Bool) (any : Bool) (o : Outside) (s : Seen) → Shows o s
-      → Shows (cond any (run_nodes answer after b.design.procs b.codes fired b.clocked.nodes o) o) (cond any (go_nodes answer after env b.design.procs b.codes fired b.clocked.nodes s) s)
-  shows_clocked_if b fired true o s h = shows_nodes b.design.procs b.codes fired b.clocked.nodes o s h
-  shows_clocked_if b fired false o s h = h
+  -- where rounds end, as far as both tell
+  record ShowsEnd (e : Ended) (f : SeenEnd) : Type 0 where
+    converged : e.converged ≡ f.converged
+    outside : Shows e.outside f.seen
 
-  shows_clocked : (b : Built) (last : List ℕ) (o : Outside) (s : Seen) → Shows o s → Shows (clocked answer after b last o) (clocked_in answer after env b last s)
-  shows_clocked b last o s h =
+  shows_turn : (any : Bool) (e : Ended) (f : SeenEnd) (o : Outside) (s : Seen) → ShowsEnd e f → Shows o s → ShowsEnd (cond any e (ended true o)) (cond any f (seen_end true s))
+  shows_turn true e f o s on here = on
+  shows_turn false e f o s on here = record { converged = refl; outside = here }
+
+  shows_rounds : (b : Built) (n : ℕ) (last : List ℕ) (o : Outside) (s : Seen) → Shows o s
+      → ShowsEnd (rounds answer after b.design.procs b.codes b.layout.words.items b.clocked.nodes n last o) (rounds_in answer after env b n last s)
+  unfolding rounds_in
+  shows_rounds b zero last o s h =
+      let words : o.words ≡ s.words = ap (λ (x : Outside). x.words) h.same in
+      record { converged = ap (λ ws. not (some_fired (fired_of b.design.procs b.layout.words.items last ws))) words; outside = h }
+  shows_rounds b (suc n) last o s h =
       let words : o.words ≡ s.words = ap (λ (x : Outside). x.words) h.same in
       let fired : List ℕ → List Bool = fired_of b.design.procs b.layout.words.items last in
-      subst (λ ws. Shows (clocked_if answer after b (fired ws) o) (clocked_in answer after env b last s)) (sym words)
-      (shows_clocked_if b (fired s.words) (list_any (λ (f : Bool). f) (fired s.words)) o s h)
+      let next : List ℕ → Outside = λ ws. run_nodes answer after b.design.procs b.codes (fired ws) b.clocked.nodes o in
+      let next_in : Seen = go_nodes answer after env b.design.procs b.codes (fired s.words) b.clocked.nodes s in
+      subst (λ ws. ShowsEnd (cond (some_fired (fired ws)) (rounds answer after b.design.procs b.codes b.layout.words.items b.clocked.nodes n ws (next ws)) (ended true o)) (cond (some_fired (fired s.words)) (rounds_in answer after env b n s.words next_in) (seen_end true s))) (sym words)
+      (shows_turn (some_fired (fired s.words)) (rounds answer after b.design.procs b.codes b.layout.words.items b.clocked.nodes n s.words (next s.words)) (rounds_in answer after env b n s.words next_in) o s
+      (shows_rounds b n s.words (next s.words) next_in (shows_nodes b.design.procs b.codes (fired s.words) b.clocked.nodes o s h)) h)
 
   shows_closed : (b : Built) (o : Outside) (s : Seen) → b.deemed ≡ env.deemed → Shows o s → closed answer after b o ≡ machine_of env s.words s
   shows_closed b o s deemed h =
       ap (closed answer after b) h.same
       ∙ ap (λ calls. let m : Machine = record (machine_of env s.words s) { calls = calls } in m) (ap (λ d. kept_deeds d h.made) deemed ∙ h.calls)
 
-  -- an eval
-  pub eval_is : (b : Built) (inputs : List Number) (last : List ℕ) (s : Seen) → b.deemed ≡ env.deemed
-      → evaluated answer after b inputs (machine_of env last s) ≡ (let e = clocked_in answer after env b last (settled_in answer after env b inputs s) in machine_of env e.words e)
-  eval_is b inputs last s deemed =
-      shows_closed b (clocked answer after b last (settled answer after b inputs (machine_of env last s).outside)) (clocked_in answer after env b last (settled_in answer after env b inputs s)) deemed
-      (shows_clocked b last (settled answer after b inputs (machine_of env last s).outside) (settled_in answer after env b inputs s) (shows_settled b inputs last s))
+  -- where an eval ends
+  abbrev ends_in : Built → List Number → List ℕ → Seen → SeenEnd
+  ends_in b inputs last s = rounds_in answer after env b most_runs last (settled_in answer after env b inputs s)
 
--- an eval in its two halves
+  shows_ends : (b : Built) (inputs : List Number) (last : List ℕ) (s : Seen) → ShowsEnd (ends answer after b inputs (machine_of env last s)) (ends_in b inputs last s)
+  shows_ends b inputs last s =
+      shows_rounds b most_runs last (settled answer after b inputs (machine_of env last s).outside) (settled_in answer after env b inputs s) (shows_settled b inputs last s)
+
+  -- an eval
+  eval_is : (b : Built) (inputs : List Number) (last : List ℕ) (s : Seen) → b.deemed ≡ env.deemed
+      → evaluated answer after b inputs (machine_of env last s) ≡ (let e = (ends_in b inputs last s).seen in machine_of env e.words e)
+  eval_is b inputs last s deemed =
+      shows_closed b (ends answer after b inputs (machine_of env last s)).outside (ends_in b inputs last s).seen deemed (shows_ends b inputs last s).outside
+
+  converges_is : (b : Built) (inputs : List Number) (last : List ℕ) (s : Seen) → converges answer after b inputs (machine_of env last s) ≡ (ends_in b inputs last s).converged
+  converges_is b inputs last s = (shows_ends b inputs last s).converged
+
+  -- it keeps no more calls than it has room for
+  eval_few : (b : Built) (inputs : List Number) (last : List ℕ) (s : Seen) → b.deemed ≡ env.deemed → length (ends_in b inputs last s).seen.calls ≤ call_room b
+  eval_few b inputs last s deemed =
+      subst (λ (m : Machine). length m.calls ≤ call_room b) (eval_is b inputs last s deemed) (kept_few answer after b inputs (machine_of env last s))
+
+-- an eval in its two parts, which leave what the host fixes
 module _ (answer : Answer) (after : After) (ids widths : List ℕ) (deemed : List Bool) where
   abbrev with_fixed : List (List ℕ) → Env
   with_fixed fixed = env_of fixed ids widths deemed
 
-  pub eval_from : (b : Built) (inputs : List Number) (last last' : List ℕ) (f f' f'' : List (List ℕ)) (s s' s'' : Seen) → b.deemed ≡ deemed → f' ≡ f → f'' ≡ f'
-      → s' ≡ settled_in answer after (with_fixed f) b inputs s → s'' ≡ clocked_in answer after (with_fixed f') b last s' → last' ≡ s''.words
+  -- the rounds fit where the eval begins
+  pub settle_fits : (b : Built) (inputs : List Number) (last : List ℕ) (f : List (List ℕ)) (s : Seen) (room : ℕ) → b.deemed ≡ deemed → room ≡ call_room b
+      → length (settled_in answer after (with_fixed f) b inputs s).calls ≤ room
+  settle_fits b inputs last f s room is place =
+      subst (λ (n : ℕ). length (settled_in answer after (with_fixed f) b inputs s).calls ≤ n) (sym place)
+      (le_trans (rounds_grow answer after (with_fixed f) b most_runs last (settled_in answer after (with_fixed f) b inputs s)) (eval_few answer after (with_fixed f) b inputs last s is))
+
+  pub rounds_fit : (b : Built) (inputs : List Number) (last : List ℕ) (f f' : List (List ℕ)) (s s' : Seen) (room room' : ℕ) → b.deemed ≡ deemed → f' ≡ f
+      → s' ≡ settled_in answer after (with_fixed f) b inputs s → room' ≡ room → room ≡ call_room b
+      → length (rounds_in answer after (with_fixed f') b MOST_RUNS last s').seen.calls ≤ room'
+  rounds_fit b inputs last f f' s s' room room' is same half kept place =
+      subst (λ (n : ℕ). length (rounds_in answer after (with_fixed f') b MOST_RUNS last s').seen.calls ≤ n) (sym (kept ∙ place))
+      (subst (λ (n : ℕ). length (rounds_in answer after (with_fixed f') b n last s').seen.calls ≤ call_room b) most
+      (subst (λ x. length (rounds_in answer after (with_fixed x) b most_runs last s').seen.calls ≤ call_room b) (sym same)
+      (subst (λ x. length (rounds_in answer after (with_fixed f) b most_runs last x).seen.calls ≤ call_room b) (sym half) (eval_few answer after (with_fixed f) b inputs last s is))))
+
+  -- what the two parts leave is where the eval ends
+  both_parts : (b : Built) (inputs : List Number) (last : List ℕ) (f f' : List (List ℕ)) (s s' : Seen) (e : SeenEnd) → f' ≡ f
+      → s' ≡ settled_in answer after (with_fixed f) b inputs s → e ≡ rounds_in answer after (with_fixed f') b MOST_RUNS last s'
+      → e ≡ ends_in answer after (with_fixed f) b inputs last s
+  both_parts b inputs last f f' s s' e same half whole =
+      whole ∙ ap (λ x. rounds_in answer after (with_fixed x) b MOST_RUNS last s') same ∙ ap (rounds_in answer after (with_fixed f) b MOST_RUNS last) half
+      ∙ ap (λ n. rounds_in answer after (with_fixed f) b n last (settled_in answer after (with_fixed f) b inputs s)) (sym most)
+
+  pub eval_from : (b : Built) (inputs : List Number) (last last' : List ℕ) (f f' f'' : List (List ℕ)) (s s' s'' : Seen) (converged : Bool) → b.deemed ≡ deemed → f' ≡ f → f'' ≡ f'
+      → s' ≡ settled_in answer after (with_fixed f) b inputs s → seen_end converged s'' ≡ rounds_in answer after (with_fixed f') b MOST_RUNS last s' → last' ≡ s''.words
       → machine_of (with_fixed f'') last' s'' ≡ evaluated answer after b inputs (machine_of (with_fixed f) last s)
-  eval_from b inputs last last' f f' f'' s s' s'' is same same' half whole ends =
-      let end : Seen = clocked_in answer after (with_fixed f) b last (settled_in answer after (with_fixed f) b inputs s) in
-      let is_end : s'' ≡ end = whole ∙ ap (λ x. clocked_in answer after (with_fixed x) b last s') same ∙ ap (clocked_in answer after (with_fixed f) b last) half in
-      ap (λ x. machine_of (with_fixed x) last' s'') (same' ∙ same) ∙ ap (λ x. machine_of (with_fixed f) x s'') ends ∙ ap (λ x. machine_of (with_fixed f) x.words x) is_end
+  eval_from b inputs last last' f f' f'' s s' s'' converged is same same' half whole words =
+      let end = both_parts b inputs last f f' s s' (seen_end converged s'') same half whole in
+      ap (λ x. machine_of (with_fixed x) last' s'') (same' ∙ same) ∙ ap (λ x. machine_of (with_fixed f) x s'') words ∙ ap (λ (x : SeenEnd). machine_of (with_fixed f) x.seen.words x.seen) end
       ∙ sym (eval_is answer after (with_fixed f) b inputs last s is)
+
+  pub converges_from : (b : Built) (inputs : List Number) (last : List ℕ) (f f' : List (List ℕ)) (s s' s'' : Seen) (converged : Bool) → f' ≡ f
+      → s' ≡ settled_in answer after (with_fixed f) b inputs s → seen_end converged s'' ≡ rounds_in answer after (with_fixed f') b MOST_RUNS last s'
+      → converged ≡ converges answer after b inputs (machine_of (with_fixed f) last s)
+  converges_from b inputs last f f' s s' s'' converged same half whole =
+      ap (λ (x : SeenEnd). x.converged) (both_parts b inputs last f f' s s' (seen_end converged s'') same half whole) ∙ sym (converges_is answer after (with_fixed f) b inputs last s)
+
+  pub few_from : (b : Built) (inputs : List Number) (last : List ℕ) (f f' : List (List ℕ)) (s s' s'' : Seen) (converged : Bool) → b.deemed ≡ deemed → f' ≡ f
+      → s' ≡ settled_in answer after (with_fixed f) b inputs s → seen_end converged s'' ≡ rounds_in answer after (with_fixed f') b MOST_RUNS last s'
+      → length s''.calls ≤ call_room b
+  few_from b inputs last f f' s s' s'' converged is same half whole =
+      subst (λ (x : SeenEnd). length x.seen.calls ≤ call_room b) (sym (both_parts b inputs last f f' s s' (seen_end converged s'') same half whole)) (eval_few answer after (with_fixed f) b inputs last s is)

@@ -1,3 +1,5 @@
 pub mod Codes
 pub mod Evals
+pub mod Grows
+pub mod Rounds
 pub mod Widths

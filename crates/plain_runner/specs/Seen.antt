@@ -1,6 +1,6 @@
 -- A run as one thread makes it: the words, the host's state and the calls that are kept so far.
-use Rattle.std.specs.Prelude.{ℕ, Bool, if◌then◌else◌, List, [], ◌++◌, slice_set, slice_index, None}
-use Rattle.std.specs.List.{list_any, fold}
+use Rattle.std.specs.Prelude.{ℕ, zero, suc, Bool, true, not, if◌then◌else◌, List, [], ◌++◌, slice_set, slice_index, None}
+use Rattle.std.specs.List.{fold}
 use Rattle.vs_base.specs.Number.{Number}
 use Rattle.rtl_ir.specs.declared.design.Proc.{Proc}
 use Rattle.plan_graph.specs.declared.node.Node.{Node}
@@ -10,7 +10,7 @@ use Rattle.task_eval.specs.Codes.{Ops}
 use Rattle.task_eval.specs.Course.{Course, finished, loading, storing, calling}
 use Rattle.task_eval.specs.Buses.{called}
 use Rattle.plan_types.specs.Coded.{code_number}
-use Rattle.plan_types.specs.Machine.{Machine, is_run, course_at, kept_deed, put_inputs, input_words, fired_of}
+use Rattle.plan_types.specs.Machine.{Machine, is_run, course_at, kept_deed, put_inputs, input_words, fired_of, some_fired}
 use Rattle.plan_types.specs.declared.built.Built.{Built}
 
 -- what a run changes
@@ -21,6 +21,14 @@ pub record Seen : Type 0 where
 
 abbrev pub seen_of : List ℕ → List ℕ → List Call → Seen
 seen_of words state calls = record { words = words; state = state; calls = calls }
+
+-- where rounds end: whether nothing fired any more, and what is seen then
+pub record SeenEnd : Type 0 where
+  pub converged : Bool
+  pub seen : Seen
+
+abbrev pub seen_end : Bool → Seen → SeenEnd
+seen_end converged s = record { converged = converged; seen = s }
 
 -- what it does not change: what the host fixes, and of each import its number, the width of its result and whether it is deemed safe
 pub record Env : Type 0 where
@@ -72,9 +80,10 @@ module _ (answer : Answer) (after : After) (env : Env) where
   abbrev pub settled_in : Built → List Number → Seen → Seen
   settled_in b inputs s = go_nodes b.design.procs b.codes [] b.settle.nodes (seen_of (put_inputs inputs (input_words b.design.ports b.layout.words.items) s.words) s.state [])
 
-  -- what fired runs
-  abbrev pub clocked_if_in : Built → List Bool → Seen → Seen
-  clocked_if_in b fired s = if list_any (λ (f : Bool). f) fired then go_nodes b.design.procs b.codes fired b.clocked.nodes s else s
-
-  abbrev pub clocked_in : Built → List ℕ → Seen → Seen
-  clocked_in b last s = clocked_if_in b (fired_of b.design.procs b.layout.words.items last s.words) s
+  -- rounds of the clocked nodes, of which the last is a test alone
+  unfoldable pub rounds_in : Built → ℕ → List ℕ → Seen → SeenEnd
+  rounds_in b zero last s = seen_end (not (some_fired (fired_of b.design.procs b.layout.words.items last s.words))) s
+  rounds_in b (suc n) last s =
+      if some_fired (fired_of b.design.procs b.layout.words.items last s.words)
+      then rounds_in b n s.words (go_nodes b.design.procs b.codes (fired_of b.design.procs b.layout.words.items last s.words) b.clocked.nodes s)
+      else seen_end true s

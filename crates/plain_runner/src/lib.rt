@@ -14,27 +14,29 @@
 //!
 //! # How an eval goes
 //!
-//! The inputs are put into their words, and no call is kept yet. The nodes of the settle part run in serial order. Then each event is
-//! taken between the words at the end of the eval before and those of now (IEEE 1800-2017 9.4.2). Where a process fired, the
-//! nodes of the clocked part run: the bodies and the commits of what fired, and the combinational processes again. At the
-//! end the words are noted for the next eval.
+//! The inputs are put into their words, and no call is kept yet. The nodes of the settle part run in serial order. Then come rounds. Each
+//! takes the events between the words at the test before and those of now (IEEE 1800-2017 9.4.2), and notes the words for the
+//! next test. Where a process fired, the nodes of the clocked part run: the bodies and the commits of what fired, and the
+//! combinational processes again. The eval ends where nothing fires, and is given up as not converged where the clocked part ran
+//! as often as it may.
 //!
-//! Frames are asked and given, and not run on a `task_eval::Bus`, since a kept call may want memory.
+//! Frames are asked and given, and not run on a `task_eval::Bus`, since only the calls that are asked for are kept.
 //!
 //! # What is proved
 //!
-//! At Ok, `open` gives a runner of exactly that model, at the opening on that host. At Ok, `eval` leaves the machine as
-//! `evaluated` of `plan_types` says, with the host's own functions; `NoMemory` comes only for want of memory at a kept call, and
-//! the model stays the same. `specs/Seen.antt` is the same run on what one thread keeps, and `proofs/Evals.antt` shows that the two
-//! agree, where the definition tells all stores and calls and the runner keeps none but the calls that are asked for.
+//! At Ok, `open` gives a runner of exactly that model, at the opening on that host. `eval` leaves the machine as `evaluated` of
+//! `plan_types` says, with the host's own functions, and answers Ok exactly where it `converges`; the model stays the same.
+//! `specs/Seen.antt` is the same run on what one thread keeps, and `proofs/Evals.antt` shows that the two agree, where the definition
+//! tells all stores and calls and the runner keeps none but the calls that are asked for. Since no run loses a call
+//! (`proofs/Grows.antt`), each call has its place: at the end there are no more than the room of the definition.
 //!
 //! The functions here take a `Callee`, which is a host without the bounds that threads need: the method of an `impl` cannot
 //! hand those on.
 //!
 //! # Cost
 //!
-//! An eval takes the ops that it runs, a step for each input word and each event, and a copy of the words. It takes memory for the
-//! kept calls alone, and keeps that memory for the next eval.
+//! An eval takes the ops that it runs, a step for each input word, and in each round a step for each event and a copy of the words. It
+//! takes no memory: `open` takes the words twice, a frame and the place of all calls that an eval can keep.
 //!
 //! ```text
 //! let mut runner = PlainRunner::open(alloc, &built, host)?;  // q = 5
@@ -54,8 +56,6 @@ mod open;
 mod put;
 mod runner;
 mod tables;
-#[cfg(test)]
-mod tests;
 mod turn;
 
 pub use runner::PlainRunner;

@@ -1,16 +1,16 @@
 //! What a run changes.
 
-use dpi_host::CallRec;
+use dpi_host::CallBuf;
 
 // The host, the words, and the calls that are kept.
 #[derive(Drop)]
 pub(crate) struct Live<C> {
     pub(crate) host: C,
     pub(crate) words: Vec<u64>,
-    pub(crate) calls: Vec<CallRec>,
+    pub(crate) calls: CallBuf,
 }
 
-// The words at the end of the eval before, and which processes fired last.
+// The words at the test before, and which processes fired at it.
 #[derive(Drop)]
 pub(crate) struct Past {
     pub(crate) last: Vec<u64>,

@@ -1,15 +1,16 @@
 //! What a runner takes when it is opened.
-ghost use Rattle.std.specs.Prelude.{◌≡◌, ◌<◌, ℕ, length, map, slice_index, IfOk};
+ghost use Rattle.std.specs.Prelude.{◌≡◌, ◌<◌, ℕ, [], length, map, slice_index, IfOk};
 ghost use Rattle.task_eval.specs.Codes.{deepest};
 ghost use Rattle.plan_types.specs.Machine.{input_words as words_of_inputs, event_word, opening_words as words_at_opening};
+ghost use Rattle.plan_types.specs.Room.{call_room as room_of};
 ghost use Rattle.plain_runner.specs.Tabled.{AreTables};
 
 use crate::live::Past;
 use crate::tables::Tables;
-use dpi_host::NoMemory;
+use dpi_host::{CallBuf, NoMemory};
 use plan_types::{Built, InputWord};
 use rtl_pieces::Word;
-use run_tables::{event_words, input_words, node_codes, opening_words, result_widths};
+use run_tables::{call_room, event_words, input_words, node_codes, opening_words, result_widths};
 use std::alloc::Global;
 use task_eval::Frame;
 
@@ -46,6 +47,13 @@ fn with_codes(
     })
 }
 
+// The place of the calls that are kept, and for how many it is.
+#[derive(Drop)]
+pub(crate) struct CallRoom {
+    pub(crate) calls: CallBuf,
+    pub(crate) room: u32,
+}
+
 // The memory of a run.
 #[derive(Drop)]
 pub(crate) struct Room {
@@ -64,6 +72,24 @@ pub(crate) fn memory(alloc: Global, built: &Built) -> Result<Room, NoMemory>
     let words = opening_words(alloc, &built.design, &built.layout)?;
     let past = past(alloc, built)?;
     Ok(Room { frame, words, past })
+}
+
+// The place of the calls that an eval can keep. There is no memory for 2^32 of them or more.
+pub(crate) fn room_for_calls(
+    alloc: Global,
+    built: &Built,
+    tables: &Tables,
+) -> Result<CallRoom, NoMemory>
+    requires { AreTables built.now tables.now }
+    ensures calls { IfOk result (λ r. r.calls ≡ record { calls = []; room = room_of built.now }) }
+    ensures room { IfOk result (λ r. r.room ≡ room_of built.now) }
+{
+    let all = call_room(built, tables.settle.as_slice(), tables.clocked.as_slice());
+    let Ok(room) = u32::try_from(all) else {
+        return Err(NoMemory);
+    };
+    let calls = CallBuf::with_room(alloc, room)?;
+    Ok(CallRoom { calls, room })
 }
 
 fn past(alloc: Global, built: &Built) -> Result<Past, NoMemory>

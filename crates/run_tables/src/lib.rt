@@ -12,15 +12,19 @@
 //! - [`result_widths`]: the width of each import's result;
 //! - [`opening_words`]: the words before the first eval.
 //!
+//! [`call_room`] counts how many calls an eval can keep, so that a runner takes their place when it is opened.
+//!
 //! [`part`] and [`cut`] take bits of a value as a word.
 //!
 //! # What is proved
 //!
-//! Each table is exactly the list of the definitions, or has at each variable what they say of it.
+//! Each table is exactly the list of the definitions, or has at each variable what they say of it. The room is that of the definition, up
+//! to what 64 bits hold.
 //!
 //! # Cost
 //!
-//! Each table takes time and memory linear in the lists that it is made of: one pass over the words, the ports or the processes.
+//! Each table takes time and memory linear in the lists that it is made of: one pass over the words, the ports or the processes. The
+//! room takes one pass over the ops of each node.
 //!
 //! ```text
 //! words   0 table | 1 a[3:0] | 2 a[7:4] | 3 clk | 4 shadow      ports  clk, a are inputs
@@ -34,6 +38,7 @@ mod events;
 mod inputs;
 mod list;
 mod opening;
+mod room;
 mod slice;
 mod widths;
 
@@ -42,5 +47,6 @@ pub use events::event_words;
 pub use inputs::input_words;
 pub use list::set_at;
 pub use opening::opening_words;
+pub use room::call_room;
 pub use slice::{cut, part};
 pub use widths::result_widths;

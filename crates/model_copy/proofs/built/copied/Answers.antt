@@ -14,4 +14,12 @@ invariant_of-result c =
       ids_each = rw (outside.ids, machinery.design) model.ids_each;
       settle_codes = rw (plans.settle, machinery.codes, machinery.design) model.settle_codes;
       clocked_codes = rw (plans.clocked, machinery.codes, machinery.design) model.clocked_codes;
+      one_driver = rw machinery.design model.one_driver;
+      free_inputs = rw machinery.design model.free_inputs;
+      is_cut = rw (machinery.words, machinery.design) model.is_cut;
+      settled = rw machinery.design model.settled;
+      settle_serial = rw (plans.settle, machinery.design) model.settle_serial;
+      clocked_serial = rw (plans.clocked, machinery.design) model.clocked_serial;
+      settle_keeps = rw (plans.settle, machinery.words, machinery.codes, machinery.design) model.settle_keeps;
+      clocked_keeps = rw (plans.clocked, machinery.words, machinery.codes, machinery.design) model.clocked_keeps;
     }

@@ -19,4 +19,4 @@ run_code-requires-clause-within g c =
 
 pub returns-in-None-clause-run : goal.returns-in-None-clause-run
 returns-in-None-clause-run g c =
-    ap (λ (o : Option Ops). go g.C.Callee.answer g.C.Callee.after (env_of (g.C.Callee.fixed c.args.live.now.host) c.args.built.now.ids c.args.tables.now.widths.items c.args.built.now.deemed) (course_if o) (seen_of c.args.live.now.words.items (g.C.Callee.state c.args.live.now.host) c.args.live.now.calls.items)) c.in-None.ensures.value
+    ap (λ (o : Option Ops). go g.C.Callee.answer g.C.Callee.after (env_of (g.C.Callee.fixed c.args.live.now.host) c.args.built.now.ids c.args.tables.now.widths.items c.args.built.now.deemed) (course_if o) (seen_of c.args.live.now.words.items (g.C.Callee.state c.args.live.now.host) c.args.live.now.calls.calls)) c.in-None.ensures.value
