@@ -1,10 +1,10 @@
 -- An eval keeps the number of words.
-use Rattle.std.proofs.Common.{◌≡◌, ℕ, Bool, true, false, cond, List, [], ◌∷◌, length, refl, ◌∙◌}
+use Rattle.std.proofs.Common.{◌≡◌, ℕ, zero, suc, Bool, true, false, cond, List, [], ◌∷◌, length, refl, ◌∙◌}
 use Rattle.std.specs.Prelude.{slice_index}
-use Rattle.std.specs.List.{list_any}
 use Rattle.std.proofs.lemmas.List.{length-set}
 use Rattle.vs_base.specs.Number.{Number}
 use Rattle.rtl_ir.specs.declared.design.Proc.{Proc}
+use Rattle.rtl_pieces.specs.declared.layout.Word.{Word}
 use Rattle.plan_graph.specs.declared.node.Node.{Node}
 use Rattle.dpi_host.specs.HostMachine.{Answer, After}
 use Rattle.task_eval.specs.Codes.{Ops}
@@ -13,7 +13,7 @@ use Rattle.task_eval.specs.Buses.{Outside, store, call, reply, run}
 use Rattle.plan_types.specs.Coded.{code_number}
 use Rattle.plan_types.specs.declared.built.Built.{Built}
 use Rattle.plan_types.specs.declared.input.InputWord.{InputWord}
-use Rattle.plan_types.specs.Machine.{Machine, course_at, is_run, run_node, run_nodes, put_inputs, input_words, settled, evaluated, fired_of}
+use Rattle.plan_types.specs.Machine.{Machine, course_at, is_run, run_node, run_nodes, put_inputs, input_words, settled, Ended, ended, some_fired, rounds, most_runs, evaluated, fired_of}
 
 run_length : (answer : Answer) (after : After) (c : Course) (o : Outside) → length (run answer after c o).words ≡ length o.words
 run_length answer after finished o = refl
@@ -39,18 +39,21 @@ inputs_length : (inputs : List Number) (words : List InputWord) (values : List �
 inputs_length inputs [] values = refl
 inputs_length inputs (w ∷ words) values = inputs_length inputs words _ ∙ length-set values w.word _
 
+round_length : (b : Bool) (e : Ended) (o : Outside) → length e.outside.words ≡ length o.words → length (cond b e (ended true o)).outside.words ≡ length o.words
+round_length true e o same = same
+round_length false e o same = refl
+
+rounds_length : (answer : Answer) (after : After) (procs : List Proc) (codes : List Ops) (words : List Word) (nodes : List Node) (n : ℕ) (last : List ℕ) (o : Outside)
+    → length (rounds answer after procs codes words nodes n last o).outside.words ≡ length o.words
+rounds_length answer after procs codes words nodes zero last o = refl
+rounds_length answer after procs codes words nodes (suc n) last o =
+    let fired = fired_of procs words last o.words in
+    let next = run_nodes answer after procs codes fired nodes o in
+    round_length (some_fired fired) (rounds answer after procs codes words nodes n o.words next) o
+    (rounds_length answer after procs codes words nodes n o.words next ∙ nodes_length answer after procs codes fired nodes o)
+
 pub evaluated_length : (answer : Answer) (after : After) (b : Built) (inputs : List Number) (m : Machine) → length (evaluated answer after b inputs m).outside.words ≡ length m.outside.words
-evaluated_length answer after b inputs m = by (list_any (λ (f : Bool). f) fired) ∙ first
-  where
-    now : Outside
-    now = settled answer after b inputs m.outside
-
-    fired : List Bool
-    fired = fired_of b.design.procs b.layout.words.items m.last now.words
-
-    first : length now.words ≡ length m.outside.words
-    first = nodes_length answer after b.design.procs b.codes [] b.settle.nodes _ ∙ inputs_length inputs (input_words b.design.ports b.layout.words.items) m.outside.words
-
-    by : (f : Bool) → length (cond f (run_nodes answer after b.design.procs b.codes fired b.clocked.nodes now) now).words ≡ length now.words
-    by true = nodes_length answer after b.design.procs b.codes fired b.clocked.nodes now
-    by false = refl
+evaluated_length answer after b inputs m =
+    rounds_length answer after b.design.procs b.codes b.layout.words.items b.clocked.nodes most_runs m.last (settled answer after b inputs m.outside)
+    ∙ nodes_length answer after b.design.procs b.codes [] b.settle.nodes _
+    ∙ inputs_length inputs (input_words b.design.ports b.layout.words.items) m.outside.words

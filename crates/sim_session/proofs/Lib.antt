@@ -1,9 +1,12 @@
 mod Steps
+mod Rooming
 mod Placing
 mod Lengths
 mod Gathered
+mod EndLaws
+mod EvalLaws
 mod Going
 mod Sets
+mod Wanting
 mod Creating
 mod Examples
-mod Sessions

@@ -2,7 +2,7 @@
 use Rattle.std.proofs.Common.{◌≡◌, ℕ, zero, suc, true, List, [], ◌∷◌, map, refl, sym, ap, ◌∙◌, length, ◌+◌, ◌*◌, arith, subst, ◌<◌, ◌≤◌, ◌-◌, ◌++◌, take, drop}
 use Rattle.std.specs.List.{list_all}
 use Rattle.std.proofs.Math.Seq.{take-length}
-use Rattle.std.specs.Prelude.{slice_set, slice_get, slice_index_or, Option, Some, None}
+use Rattle.std.specs.Prelude.{slice_set, slice_get, slice_index_or, Option, Some, None, vec_capacity}
 use Rattle.std.specs.Option.{option_map_or}
 use Rattle.std.proofs.lemmas.Bool.{and_parts, eqb-true}
 use Rattle.vs_base.specs.Number.{Number}
@@ -10,14 +10,18 @@ use Rattle.vs_base.specs.declared.act.Act.{Act}
 use Rattle.vs_base.specs.declared.act.Act.TheVariants.{Set, Eval, Clock}
 use Rattle.rtl_ir.specs.declared.design.Var.{Var}
 use Rattle.rtl_ir.specs.declared.design.Port.{Port}
+use Rattle.rtl_ir.specs.declared.whole.Design.{Design}
 use Rattle.plan_types.specs.declared.built.Built.{Built}
 use Rattle.plan_types.specs.Machine as machine
 use Rattle.plan_types.specs.Machine.{Machine}
-use Rattle.vcd_out.specs.Buffer.{Serves}
+use Rattle.vs_world.specs.Outside.{Told}
 use Rattle.stimulus.specs.Stimulus as stim
 use Rattle.sim_session.specs.Inputs.{port_width, width_at, lowered, turn_inputs, turns_inputs, after_turns, act_inputs, after_act, inputs_from, opening_ports}
-use Rattle.sim_session.specs.Ready.{IsReady, Keeps}
+use Rattle.sim_session.specs.Ends.{stand}
+use Rattle.sim_session.specs.Ready.{HasRoom, IsReady, Keeps}
+use Rattle.sim_session.specs.declared.session.Output.{Output}
 use Rattle.sim_session.specs.declared.session.Session.{Session}
+use Rattle.sim_session.specs.declared.texts.Texts.{Texts}
 
 abbrev head_of : ℕ → List ℕ → ℕ
 head_of d [] = d
@@ -39,12 +43,35 @@ set_width vars (port ∷ ports) (x ∷ values) zero v h w = (λ i. w i ∷ ap ta
 set_width vars (port ∷ ports) (x ∷ values) (suc place) v h w = (λ i. ap (head_of 0) h i ∷ set_width vars ports values place v (ap tail_of h) w i)
 
 -- so a session stays ready
-pub ready_set : (s s' : Session) (b : Built) (m : Machine) (place : ℕ) (v : Number) → IsReady s b m → s'.set.items ≡ slice_set s.set.items place v → Keeps s s'
-    → v.width ≡ width_at b.design.vars b.design.ports place → IsReady s' b m
-ready_set s s' b m place v r e k w = record {
-  set = ap widths e ∙ set_width b.design.vars b.design.ports s.set.items place v r.set w;
-  before = (λ i. (k.before i).items) ∙ r.before;
-  changes = subst (λ room. Serves room.changes b.design) (sym k.room) r.changes;
+module _ (s s' : Session) (k : Keeps s s') where
+  pub ready_set : (texts : Texts) (b : Built) (m : Machine) (place : ℕ) (v : Number) → IsReady texts b s m → s'.set.items ≡ slice_set s.set.items place v
+      → v.width ≡ width_at b.design.vars b.design.ports place → IsReady texts b s' m
+  ready_set texts b m place v r e w = record {
+    set = ap widths e ∙ set_width b.design.vars b.design.ports s.set.items place v r.set w;
+    before = (λ i. (k.before i).items) ∙ r.before;
+    inputs_room = let same = ap vec_capacity k.inputs in let room = r.inputs_room in omega (arith, same, room);
+    before_room = let same = ap vec_capacity k.before in let room = r.before_room in omega (arith, same, room);
+    after_room = let same = ap vec_capacity k.after in let room = r.after_room in omega (arith, same, room);
+    out = subst (λ (o : Output). HasRoom texts b o) (sym k.out) r.out;
+    count = let done = ap (λ (o : Output). o.done) k.out in let number = k.number in let few = r.count in omega (arith, done, number, few);
+    words = r.words;
+    ordinary = r.ordinary;
+  }
+
+  -- and it stands where it stood
+  pub stands : (m : Machine) (told : Told) → stand s' m told ≡ stand s m told
+  stands m told = λ i. record { number = k.number i; machine = m; mark = record { done = (k.out i).done; told = told } }
+
+-- entries are counted
+pub ready_counted : (texts : Texts) (b : Built) (s : Session) (m : Machine) (n : ℕ) → IsReady texts b s m → n ≤ 3 * s.number + 3 → IsReady texts b (record s { out = record s.out { done = n } }) m
+ready_counted texts b s m n r few = record {
+  set = r.set;
+  before = r.before;
+  inputs_room = r.inputs_room;
+  before_room = r.before_room;
+  after_room = r.after_room;
+  out = record { line = r.out.line; log = r.out.log; changes = r.out.changes };
+  count = few;
   words = r.words;
   ordinary = r.ordinary;
 }
@@ -65,39 +92,43 @@ fits_width b place v h =
 
 -- ---- how many evals
 
-turns_length : (vars : List Var) (ports : List Port) (place turns : ℕ) (values : List Number) → length (turns_inputs vars ports place turns values) ≡ 2 * turns
-turns_length vars ports place zero values = refl
-turns_length vars ports place (suc turns) values = let e = turns_length vars ports place turns (lowered vars ports place values) in omega (arith, e)
+turns_length : (d : Design) (place turns : ℕ) (values : List Number) → length (turns_inputs d place turns values) ≡ 2 * turns
+turns_length d place zero values = refl
+turns_length d place (suc turns) values = let e = turns_length d place turns (lowered d place values) in omega (arith, e)
 
-pub act_length : (vars : List Var) (ports : List Port) (act : Act) (values : List Number) → length (act_inputs vars ports act values) ≡ stim.evals_of act
-act_length vars ports (Set place v) values = refl
-act_length vars ports Eval values = refl
-act_length vars ports (Clock place turns) values = turns_length vars ports place turns values
+pub act_length : (d : Design) (act : Act) (values : List Number) → length (act_inputs d act values) ≡ stim.evals_of act
+act_length d (Set place v) values = refl
+act_length d Eval values = refl
+act_length d (Clock place turns) values = turns_length d place turns values
 
 -- ---- one turn, and the rest of them
 
-pub turns_step : (vars : List Var) (ports : List Port) (place left : ℕ) (values : List Number) → 0 < left
-    → turns_inputs vars ports place left values ≡ turn_inputs vars ports place values ++ turns_inputs vars ports place (left - 1) (lowered vars ports place values)
-turns_step vars ports place zero values h = let none : ⊥ = omega (arith, h) in absurd none
-turns_step vars ports place (suc j) values h =
-    let e : j ≡ suc j - 1 = omega arith in
-    ap (λ (n : ℕ). turn_inputs vars ports place values ++ turns_inputs vars ports place n (lowered vars ports place values)) e
+-- where no turn is left there is no further input
+pub turns_end : (d : Design) (place turns : ℕ) (values : List Number) → turns ≤ 0 → turns_inputs d place turns values ≡ []
+turns_end d place zero values none = refl
+turns_end d place (suc turns) values none = let never : ⊥ = omega (arith, none) in absurd never
 
-pub after_step : (vars : List Var) (ports : List Port) (place left : ℕ) (values : List Number) → 0 < left
-    → after_turns vars ports place left values ≡ after_turns vars ports place (left - 1) (lowered vars ports place values)
-after_step vars ports place zero values h = let none : ⊥ = omega (arith, h) in absurd none
-after_step vars ports place (suc j) values h = let e : j ≡ suc j - 1 = omega arith in ap (λ (n : ℕ). after_turns vars ports place n (lowered vars ports place values)) e
+pub turns_step : (d : Design) (place left : ℕ) (values : List Number) → 0 < left
+    → turns_inputs d place left values ≡ turn_inputs d place values ++ turns_inputs d place (left - 1) (lowered d place values)
+turns_step d place zero values h = let none : ⊥ = omega (arith, h) in absurd none
+turns_step d place (suc j) values h =
+    let e : j ≡ suc j - 1 = omega arith in
+    ap (λ (n : ℕ). turn_inputs d place values ++ turns_inputs d place n (lowered d place values)) e
+
+pub after_step : (d : Design) (place left : ℕ) (values : List Number) → 0 < left
+    → after_turns d place left values ≡ after_turns d place (left - 1) (lowered d place values)
+after_step d place zero values h = let none : ⊥ = omega (arith, h) in absurd none
+after_step d place (suc j) values h = let e : j ≡ suc j - 1 = omega arith in ap (λ (n : ℕ). after_turns d place n (lowered d place values)) e
 
 -- ---- one act, and the rest of them, as the code takes them apart
 
 tail_is : {A : Type 0} (x : A) (xs : List A) → take (length (x ∷ xs) - 1) (drop 1 (x ∷ xs)) ≡ xs
 tail_is x xs = let e : length (x ∷ xs) - 1 ≡ length xs = omega arith in ap (λ (k : ℕ). take k xs) e ∙ take-length xs
 
-pub acts_step : (vars : List Var) (ports : List Port) (rest : List Act) (d : Act) (values : List Number) → 1 ≤ length rest
-    → inputs_from vars ports rest values ≡ act_inputs vars ports (slice_index_or rest 0 d) values ++ inputs_from vars ports (take (length rest - 1) (drop 1 rest)) (after_act vars ports (slice_index_or rest 0 d) values)
-acts_step vars ports [] d values h = let none : ⊥ = omega (arith, h) in absurd none
-acts_step vars ports (act ∷ acts) d values h =
-    ap (λ (l : List Act). act_inputs vars ports act values ++ inputs_from vars ports l (after_act vars ports act values)) (sym (tail_is act acts))
+pub acts_step : (d : Design) (rest : List Act) (x : Act) (values : List Number) → 1 ≤ length rest
+    → inputs_from d rest values ≡ act_inputs d (slice_index_or rest 0 x) values ++ inputs_from d (take (length rest - 1) (drop 1 rest)) (after_act d (slice_index_or rest 0 x) values)
+acts_step d [] x values h = let none : ⊥ = omega (arith, h) in absurd none
+acts_step d (act ∷ acts) x values h = ap (λ (l : List Act). act_inputs d act values ++ inputs_from d l (after_act d act values)) (sym (tail_is act acts))
 
 pub evals_step : (rest : List Act) (d : Act) → 1 ≤ length rest → stim.evals_in rest ≡ stim.evals_of (slice_index_or rest 0 d) + stim.evals_in (take (length rest - 1) (drop 1 rest))
 evals_step [] d h = let none : ⊥ = omega (arith, h) in absurd none
@@ -116,11 +147,11 @@ fewer [] h = omega (arith, h)
 fewer (x ∷ xs) h = ap (λ l. length l + 1) (tail_is x xs) ∙ omega arith
 
 -- the same of an act that is the first one
-pub acts_turn : (vars : List Var) (ports : List Port) (rest : List Act) (act : Act) (values : List Number) → 1 ≤ length rest → act ≡ slice_index_or rest 0 act
-    → inputs_from vars ports rest values ≡ act_inputs vars ports act values ++ inputs_from vars ports (take (length rest - 1) (drop 1 rest)) (after_act vars ports act values)
-acts_turn vars ports rest act values h is =
-    acts_step vars ports rest act values h
-    ∙ ap (λ (a : Act). act_inputs vars ports a values ++ inputs_from vars ports (take (length rest - 1) (drop 1 rest)) (after_act vars ports a values)) (sym is)
+pub acts_turn : (d : Design) (rest : List Act) (act : Act) (values : List Number) → 1 ≤ length rest → act ≡ slice_index_or rest 0 act
+    → inputs_from d rest values ≡ act_inputs d act values ++ inputs_from d (take (length rest - 1) (drop 1 rest)) (after_act d act values)
+acts_turn d rest act values h is =
+    acts_step d rest act values h
+    ∙ ap (λ (a : Act). act_inputs d a values ++ inputs_from d (take (length rest - 1) (drop 1 rest)) (after_act d a values)) (sym is)
 
 pub evals_turn : (rest : List Act) (act : Act) → 1 ≤ length rest → act ≡ slice_index_or rest 0 act → stim.evals_in rest ≡ stim.evals_of act + stim.evals_in (take (length rest - 1) (drop 1 rest))
 evals_turn rest act h is = evals_step rest act h ∙ ap (λ (a : Act). stim.evals_of a + stim.evals_in (take (length rest - 1) (drop 1 rest))) (sym is)

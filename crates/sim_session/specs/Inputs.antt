@@ -34,45 +34,45 @@ abbrev pub opening_ports : List Var → List Port → List Number
 opening_ports vars ports = map (λ (port : Port). kept (port_width vars port) 0) ports
 
 -- the port at a place is given a small number
-abbrev pub with_number : List Var → List Port → ℕ → ℕ → List Number → List Number
-with_number vars ports place n values = slice_set values place (kept (width_at vars ports place) n)
+abbrev pub with_number : Design → ℕ → ℕ → List Number → List Number
+with_number d place n values = slice_set values place (kept (width_at d.vars d.ports place) n)
 
 -- the inputs at the eval that follows
-abbrev pub number_inputs : List Var → List Port → ℕ → ℕ → List Number → List (List Number)
-number_inputs vars ports place n values = inputs_at ports (with_number vars ports place n values) ∷ []
+abbrev pub number_inputs : Design → ℕ → ℕ → List Number → List (List Number)
+number_inputs d place n values = inputs_at d.ports (with_number d place n values) ∷ []
 
 -- a turn of a clock sets its port to 1 for an eval, and then to 0 for one
-abbrev pub lowered : List Var → List Port → ℕ → List Number → List Number
-lowered vars ports place values = with_number vars ports place 0 (with_number vars ports place 1 values)
+abbrev pub lowered : Design → ℕ → List Number → List Number
+lowered d place values = with_number d place 0 (with_number d place 1 values)
 
-abbrev pub turn_inputs : List Var → List Port → ℕ → List Number → List (List Number)
-turn_inputs vars ports place values = number_inputs vars ports place 1 values ++ number_inputs vars ports place 0 (with_number vars ports place 1 values)
+abbrev pub turn_inputs : Design → ℕ → List Number → List (List Number)
+turn_inputs d place values = number_inputs d place 1 values ++ number_inputs d place 0 (with_number d place 1 values)
 
 -- the inputs at the evals of so many turns, and the ports after them
-abbrev pub turns_inputs : List Var → List Port → ℕ → ℕ → List Number → List (List Number)
-turns_inputs vars ports place zero values = []
-turns_inputs vars ports place (suc turns) values = turn_inputs vars ports place values ++ turns_inputs vars ports place turns (lowered vars ports place values)
+abbrev pub turns_inputs : Design → ℕ → ℕ → List Number → List (List Number)
+turns_inputs d place zero values = []
+turns_inputs d place (suc turns) values = turn_inputs d place values ++ turns_inputs d place turns (lowered d place values)
 
-abbrev pub after_turns : List Var → List Port → ℕ → ℕ → List Number → List Number
-after_turns vars ports place zero values = values
-after_turns vars ports place (suc turns) values = after_turns vars ports place turns (lowered vars ports place values)
+abbrev pub after_turns : Design → ℕ → ℕ → List Number → List Number
+after_turns d place zero values = values
+after_turns d place (suc turns) values = after_turns d place turns (lowered d place values)
 
 -- the inputs at the evals of an act, and the ports after it
-abbrev pub act_inputs : List Var → List Port → Act → List Number → List (List Number)
-act_inputs vars ports (Set place value) values = []
-act_inputs vars ports Eval values = inputs_at ports values ∷ []
-act_inputs vars ports (Clock place turns) values = turns_inputs vars ports place turns values
+abbrev pub act_inputs : Design → Act → List Number → List (List Number)
+act_inputs d (Set place value) values = []
+act_inputs d Eval values = inputs_at d.ports values ∷ []
+act_inputs d (Clock place turns) values = turns_inputs d place turns values
 
-abbrev pub after_act : List Var → List Port → Act → List Number → List Number
-after_act vars ports (Set place value) values = slice_set values place value
-after_act vars ports Eval values = values
-after_act vars ports (Clock place turns) values = after_turns vars ports place turns values
+abbrev pub after_act : Design → Act → List Number → List Number
+after_act d (Set place value) values = slice_set values place value
+after_act d Eval values = values
+after_act d (Clock place turns) values = after_turns d place turns values
 
 -- those of the evals of acts
-abbrev pub inputs_from : List Var → List Port → List Act → List Number → List (List Number)
-inputs_from vars ports [] values = []
-inputs_from vars ports (act ∷ acts) values = act_inputs vars ports act values ++ inputs_from vars ports acts (after_act vars ports act values)
+abbrev pub inputs_from : Design → List Act → List Number → List (List Number)
+inputs_from d [] values = []
+inputs_from d (act ∷ acts) values = act_inputs d act values ++ inputs_from d acts (after_act d act values)
 
 -- the inputs at each eval of a run
 abbrev pub inputs_of : Design → List Act → List (List Number)
-inputs_of design acts = inputs_from design.vars design.ports acts (opening_ports design.vars design.ports)
+inputs_of d acts = inputs_from d acts (opening_ports d.vars d.ports)

@@ -2,12 +2,8 @@ pub mod Lines
 pub mod CallLines
 pub mod Inputs
 pub mod Values
-pub mod Pieces
-pub mod PieceLaws
 pub mod Runs
-pub mod RunLaws
+pub mod Ends
+pub mod Rooms
 pub mod Ready
-pub mod Files
-pub mod Streams
-pub mod StreamLaws
 pub mod SessionLaws

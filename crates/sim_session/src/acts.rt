@@ -1,35 +1,24 @@
 //! The acts of a stimulus.
-ghost use Rattle.std.specs.Prelude.{◌≡◌, ◌≤◌, ◌<◌, ◌+◌, ◌*◌, ◌^◌, OnOk, IfErr, true, slice_set};
+ghost use Rattle.std.specs.Prelude.{◌≡◌, ◌≤◌, ◌<◌, ◌+◌, ◌*◌, ◌^◌, OnOk, true, slice_set};
 ghost use Rattle.std.specs.List.{list_all};
 ghost use Rattle.std.specs.Option.{option_copied};
 ghost use Rattle.vs_base.specs.Number.{kept};
-ghost use Rattle.plan_types.specs.Machine as machine;
 ghost use Rattle.stimulus.specs.Stimulus.{act_fits, design_ports, evals_of, evals_in};
 ghost use Rattle.sim_session.specs.Inputs.{width_if, width_at, with_number, number_inputs, lowered, turn_inputs, turns_inputs, after_turns, act_inputs, after_act, inputs_from};
-ghost use Rattle.sim_session.specs.Pieces.{seen, Ended, IsOpened};
-ghost use Rattle.sim_session.specs.Runs.{setting, run_pieces, Ran};
-ghost use Rattle.sim_session.specs.Ready.{IsReady, Keeps};
+ghost use Rattle.sim_session.specs.Runs.{setting};
+ghost use Rattle.sim_session.specs.Ends.{stand, RanOrStopped};
+ghost use Rattle.sim_session.specs.Ready.{IsOpened, IsReady, Keeps};
 
 use crate::eval::run_eval;
 use crate::fault::SessionFault;
-use crate::session::{Session, Wanted};
+use crate::session::Session;
+use crate::texts::Texts;
+use crate::values::var_width;
 use plan_types::{Built, Runner};
 use rtl_ir::{Design, Port, Var};
 use sqlite_items::at;
 use vs_base::{Act, Bits};
 use vs_world::World;
-
-/// The width of a variable; 1 where there is none.
-pub fn var_width(var: Option<&Var>) -> u32
-    ensures value { result ≡ machine.width_if (option_copied var.entry) }
-    ensures some { 1 ≤ result }
-    ensures most { result ≤ 128 }
-{
-    match var {
-        Some(var) => var.width,
-        None => 1,
-    }
-}
 
 // The width of a port; 1 where there is none.
 fn port_width(vars: &[Var], port: Option<&Port>) -> u32
@@ -66,47 +55,45 @@ fn set_port(session: &mut Session, place: u32, value: Bits)
 fn run_number<R: Runner, W: World>(
     runner: &mut R,
     built: &Built,
-    wanted: Wanted,
+    texts: &Texts,
     place: u32,
     number: u128,
     session: &mut Session,
     world: &mut W,
 ) -> Result<(), SessionFault>
     requires same { R.built runner.old ≡ built.now }
-    requires ready { IsReady session.old built.now (R.machine runner.old) }
-    requires opened { IsOpened wanted.logs wanted.waves (W.made world.old) }
-    requires few { session.old.number + 1 < 2 ^ 64 }
+    requires ready { IsReady texts.now built.now session.old (R.machine runner.old) }
+    requires opened { IsOpened texts.now (W.told world.old).made }
+    requires few { session.old.number + 1 < 2 ^ 60 }
     ensures same { R.built runner.new ≡ built.now }
-    ensures ready { OnOk result (IsReady session.new built.now (R.machine runner.new)) }
-    ensures set { OnOk result (session.new.set.items ≡ with_number built.now.design.vars built.now.design.ports place number session.old.set.items) }
-    ensures ran { OnOk result (Ran (setting R.Host.answer R.Host.after built.now wanted.logs wanted.waves) (number_inputs built.now.design.vars built.now.design.ports place number session.old.set.items) session.old.number session.new.number (R.machine runner.old) (R.machine runner.new) (seen (W.written world.old) (W.made world.old) (W.files world.old) (W.faults world.old) (W.absent world.old)) (seen (W.written world.new) (W.made world.new) (W.files world.new) (W.faults world.new) (W.absent world.new))) }
-    ensures ended { IfErr result (λ f. Ended f (run_pieces (setting R.Host.answer R.Host.after built.now wanted.logs wanted.waves) session.old.number (R.machine runner.old) (number_inputs built.now.design.vars built.now.design.ports place number session.old.set.items)) (seen (W.written world.old) (W.made world.old) (W.files world.old) (W.faults world.old) (W.absent world.old)) (seen (W.written world.new) (W.made world.new) (W.files world.new) (W.faults world.new) (W.absent world.new))) }
+    ensures ready { OnOk result (IsReady texts.now built.now session.new (R.machine runner.new)) }
+    ensures set { OnOk result (session.new.set.items ≡ with_number built.now.design place number session.old.set.items) }
+    ensures ran { RanOrStopped (setting R.Host.answer R.Host.after built.now texts.now) (number_inputs built.now.design place number session.old.set.items) result (stand session.old (R.machine runner.old) (W.told world.old)) (stand session.new (R.machine runner.new) (W.told world.new)) }
 {
     set_port(session, place, number_for(&built.design, place, number));
-    run_eval(runner, built, wanted, session, world)
+    run_eval(runner, built, texts, session, world)
 }
 
 // A turn of a clock: its port is 1 at an eval and then 0 at one.
 fn run_turn<R: Runner, W: World>(
     runner: &mut R,
     built: &Built,
-    wanted: Wanted,
+    texts: &Texts,
     place: u32,
     session: &mut Session,
     world: &mut W,
 ) -> Result<(), SessionFault>
     requires same { R.built runner.old ≡ built.now }
-    requires ready { IsReady session.old built.now (R.machine runner.old) }
-    requires opened { IsOpened wanted.logs wanted.waves (W.made world.old) }
-    requires few { session.old.number + 2 < 2 ^ 64 }
+    requires ready { IsReady texts.now built.now session.old (R.machine runner.old) }
+    requires opened { IsOpened texts.now (W.told world.old).made }
+    requires few { session.old.number + 2 < 2 ^ 60 }
     ensures same { R.built runner.new ≡ built.now }
-    ensures ready { OnOk result (IsReady session.new built.now (R.machine runner.new)) }
-    ensures set { OnOk result (session.new.set.items ≡ lowered built.now.design.vars built.now.design.ports place session.old.set.items) }
-    ensures ran { OnOk result (Ran (setting R.Host.answer R.Host.after built.now wanted.logs wanted.waves) (turn_inputs built.now.design.vars built.now.design.ports place session.old.set.items) session.old.number session.new.number (R.machine runner.old) (R.machine runner.new) (seen (W.written world.old) (W.made world.old) (W.files world.old) (W.faults world.old) (W.absent world.old)) (seen (W.written world.new) (W.made world.new) (W.files world.new) (W.faults world.new) (W.absent world.new))) }
-    ensures ended { IfErr result (λ f. Ended f (run_pieces (setting R.Host.answer R.Host.after built.now wanted.logs wanted.waves) session.old.number (R.machine runner.old) (turn_inputs built.now.design.vars built.now.design.ports place session.old.set.items)) (seen (W.written world.old) (W.made world.old) (W.files world.old) (W.faults world.old) (W.absent world.old)) (seen (W.written world.new) (W.made world.new) (W.files world.new) (W.faults world.new) (W.absent world.new))) }
+    ensures ready { OnOk result (IsReady texts.now built.now session.new (R.machine runner.new)) }
+    ensures set { OnOk result (session.new.set.items ≡ lowered built.now.design place session.old.set.items) }
+    ensures ran { RanOrStopped (setting R.Host.answer R.Host.after built.now texts.now) (turn_inputs built.now.design place session.old.set.items) result (stand session.old (R.machine runner.old) (W.told world.old)) (stand session.new (R.machine runner.new) (W.told world.new)) }
 {
-    match run_number(runner, built, wanted, place, 1, session, world) {
-        Ok(()) => run_number(runner, built, wanted, place, 0, session, world),
+    match run_number(runner, built, texts, place, 1, session, world) {
+        Ok(()) => run_number(runner, built, texts, place, 0, session, world),
         Err(fault) => Err(fault),
     }
 }
@@ -115,25 +102,24 @@ fn run_turn<R: Runner, W: World>(
 fn run_turns<R: Runner, W: World>(
     runner: &mut R,
     built: &Built,
-    wanted: Wanted,
+    texts: &Texts,
     place: u32,
     turns: u32,
     session: &mut Session,
     world: &mut W,
 ) -> Result<(), SessionFault>
     requires same { R.built runner.old ≡ built.now }
-    requires ready { IsReady session.old built.now (R.machine runner.old) }
-    requires opened { IsOpened wanted.logs wanted.waves (W.made world.old) }
-    requires few { session.old.number + (2 * turns + 1) < 2 ^ 64 }
+    requires ready { IsReady texts.now built.now session.old (R.machine runner.old) }
+    requires opened { IsOpened texts.now (W.told world.old).made }
+    requires few { session.old.number + (2 * turns + 1) < 2 ^ 60 }
     ensures same { R.built runner.new ≡ built.now }
-    ensures ready { OnOk result (IsReady session.new built.now (R.machine runner.new)) }
-    ensures set { OnOk result (session.new.set.items ≡ after_turns built.now.design.vars built.now.design.ports place turns session.old.set.items) }
-    ensures ran { OnOk result (Ran (setting R.Host.answer R.Host.after built.now wanted.logs wanted.waves) (turns_inputs built.now.design.vars built.now.design.ports place turns session.old.set.items) session.old.number session.new.number (R.machine runner.old) (R.machine runner.new) (seen (W.written world.old) (W.made world.old) (W.files world.old) (W.faults world.old) (W.absent world.old)) (seen (W.written world.new) (W.made world.new) (W.files world.new) (W.faults world.new) (W.absent world.new))) }
-    ensures ended { IfErr result (λ f. Ended f (run_pieces (setting R.Host.answer R.Host.after built.now wanted.logs wanted.waves) session.old.number (R.machine runner.old) (turns_inputs built.now.design.vars built.now.design.ports place turns session.old.set.items)) (seen (W.written world.old) (W.made world.old) (W.files world.old) (W.faults world.old) (W.absent world.old)) (seen (W.written world.new) (W.made world.new) (W.files world.new) (W.faults world.new) (W.absent world.new))) }
+    ensures ready { OnOk result (IsReady texts.now built.now session.new (R.machine runner.new)) }
+    ensures set { OnOk result (session.new.set.items ≡ after_turns built.now.design place turns session.old.set.items) }
+    ensures ran { RanOrStopped (setting R.Host.answer R.Host.after built.now texts.now) (turns_inputs built.now.design place turns session.old.set.items) result (stand session.old (R.machine runner.old) (W.told world.old)) (stand session.new (R.machine runner.new) (W.told world.new)) }
 {
     let mut left = turns;
     'turns: while left > 0 {
-        match run_turn(runner, built, wanted, place, session, world) {
+        match run_turn(runner, built, texts, place, session, world) {
             Ok(()) => {}
             Err(fault) => return Err(fault),
         }
@@ -146,30 +132,29 @@ fn run_turns<R: Runner, W: World>(
 fn run_act<R: Runner, W: World>(
     runner: &mut R,
     built: &Built,
-    wanted: Wanted,
+    texts: &Texts,
     act: Act,
     session: &mut Session,
     world: &mut W,
 ) -> Result<(), SessionFault>
     requires same { R.built runner.old ≡ built.now }
-    requires ready { IsReady session.old built.now (R.machine runner.old) }
-    requires opened { IsOpened wanted.logs wanted.waves (W.made world.old) }
+    requires ready { IsReady texts.now built.now session.old (R.machine runner.old) }
+    requires opened { IsOpened texts.now (W.told world.old).made }
     requires fits { act_fits (design_ports built.now.design) act ≡ true }
-    requires few { session.old.number + (evals_of act + 1) < 2 ^ 64 }
+    requires few { session.old.number + (evals_of act + 1) < 2 ^ 60 }
     ensures same { R.built runner.new ≡ built.now }
-    ensures ready { OnOk result (IsReady session.new built.now (R.machine runner.new)) }
-    ensures set { OnOk result (session.new.set.items ≡ after_act built.now.design.vars built.now.design.ports act session.old.set.items) }
-    ensures ran { OnOk result (Ran (setting R.Host.answer R.Host.after built.now wanted.logs wanted.waves) (act_inputs built.now.design.vars built.now.design.ports act session.old.set.items) session.old.number session.new.number (R.machine runner.old) (R.machine runner.new) (seen (W.written world.old) (W.made world.old) (W.files world.old) (W.faults world.old) (W.absent world.old)) (seen (W.written world.new) (W.made world.new) (W.files world.new) (W.faults world.new) (W.absent world.new))) }
-    ensures ended { IfErr result (λ f. Ended f (run_pieces (setting R.Host.answer R.Host.after built.now wanted.logs wanted.waves) session.old.number (R.machine runner.old) (act_inputs built.now.design.vars built.now.design.ports act session.old.set.items)) (seen (W.written world.old) (W.made world.old) (W.files world.old) (W.faults world.old) (W.absent world.old)) (seen (W.written world.new) (W.made world.new) (W.files world.new) (W.faults world.new) (W.absent world.new))) }
+    ensures ready { OnOk result (IsReady texts.now built.now session.new (R.machine runner.new)) }
+    ensures set { OnOk result (session.new.set.items ≡ after_act built.now.design act session.old.set.items) }
+    ensures ran { RanOrStopped (setting R.Host.answer R.Host.after built.now texts.now) (act_inputs built.now.design act session.old.set.items) result (stand session.old (R.machine runner.old) (W.told world.old)) (stand session.new (R.machine runner.new) (W.told world.new)) }
 {
     match act {
         Act::Set { port, value } => {
             set_port(session, port, value);
             Ok(())
         }
-        Act::Eval => run_eval(runner, built, wanted, session, world),
+        Act::Eval => run_eval(runner, built, texts, session, world),
         Act::Clock { port, turns } => {
-            run_turns(runner, built, wanted, port, turns, session, world)
+            run_turns(runner, built, texts, port, turns, session, world)
         }
     }
 }
@@ -178,23 +163,22 @@ fn run_act<R: Runner, W: World>(
 pub fn run_acts<R: Runner, W: World>(
     runner: &mut R,
     built: &Built,
-    wanted: Wanted,
+    texts: &Texts,
     acts: &[Act],
     session: &mut Session,
     world: &mut W,
 ) -> Result<(), SessionFault>
     requires same { R.built runner.old ≡ built.now }
-    requires ready { IsReady session.old built.now (R.machine runner.old) }
-    requires opened { IsOpened wanted.logs wanted.waves (W.made world.old) }
+    requires ready { IsReady texts.now built.now session.old (R.machine runner.old) }
+    requires opened { IsOpened texts.now (W.told world.old).made }
     requires fits { list_all (act_fits (design_ports built.now.design)) acts.now ≡ true }
-    requires few { session.old.number + (evals_in acts.now + 1) < 2 ^ 64 }
+    requires few { session.old.number + (evals_in acts.now + 1) < 2 ^ 60 }
     ensures same { R.built runner.new ≡ built.now }
-    ensures ran { OnOk result (Ran (setting R.Host.answer R.Host.after built.now wanted.logs wanted.waves) (inputs_from built.now.design.vars built.now.design.ports acts.now session.old.set.items) session.old.number session.new.number (R.machine runner.old) (R.machine runner.new) (seen (W.written world.old) (W.made world.old) (W.files world.old) (W.faults world.old) (W.absent world.old)) (seen (W.written world.new) (W.made world.new) (W.files world.new) (W.faults world.new) (W.absent world.new))) }
-    ensures ended { IfErr result (λ f. Ended f (run_pieces (setting R.Host.answer R.Host.after built.now wanted.logs wanted.waves) session.old.number (R.machine runner.old) (inputs_from built.now.design.vars built.now.design.ports acts.now session.old.set.items)) (seen (W.written world.old) (W.made world.old) (W.files world.old) (W.faults world.old) (W.absent world.old)) (seen (W.written world.new) (W.made world.new) (W.files world.new) (W.faults world.new) (W.absent world.new))) }
+    ensures ran { RanOrStopped (setting R.Host.answer R.Host.after built.now texts.now) (inputs_from built.now.design acts.now session.old.set.items) result (stand session.old (R.machine runner.old) (W.told world.old)) (stand session.new (R.machine runner.new) (W.told world.new)) }
 {
     let mut rest = acts;
     'acts: while let [act, more @ ..] = rest {
-        match run_act(runner, built, wanted, *act, session, world) {
+        match run_act(runner, built, texts, *act, session, world) {
             Ok(()) => {}
             Err(fault) => return Err(fault),
         }

@@ -1,45 +1,60 @@
 //! The files of a run.
-ghost use Rattle.std.specs.Prelude.{OnOk, OnErr, IfErr, is_some};
+ghost use Rattle.std.specs.Prelude.{◌<◌, ◌≤◌, ◌+◌, ◌^◌, OnOk, None};
 ghost use Rattle.std.specs.Option.{option_copied};
 ghost use Rattle.vs_world.specs.declared.world.Stream.TheVariants.{Calls as CallStream, Vcd as VcdStream};
 ghost use Rattle.vs_world.specs.Outside.{IsCreatable};
-ghost use Rattle.sim_session.specs.Pieces.{seen, IsOpened};
-ghost use Rattle.sim_session.specs.Files.{named, files_of, Created, NotCreated, Uncreated};
+ghost use Rattle.sim_session.specs.Runs.{creation, creations};
+ghost use Rattle.sim_session.specs.Ends.{mark, DoneOrStopped};
+ghost use Rattle.sim_session.specs.Ready.{IsOpened};
 
 use crate::fault::SessionFault;
 use crate::texts::Texts;
 use vs_base::Text;
-use vs_world::{Fault, Stream, World};
+use vs_world::{Stream, World};
 
-// Creates the file of a stream, where it has a name.
-fn create_file<W: World>(world: &mut W, stream: Stream, name: Option<&Text>) -> Result<(), Fault>
-    requires { IsCreatable (W.made world.old) stream }
-    ensures ok { OnOk result (Created (named stream (option_copied name.entry)) (seen (W.written world.old) (W.made world.old) (W.files world.old) (W.faults world.old) (W.absent world.old)) (seen (W.written world.new) (W.made world.new) (W.files world.new) (W.faults world.new) (W.absent world.new))) }
-    ensures err { OnErr result (NotCreated stream (named stream (option_copied name.entry)) (seen (W.written world.old) (W.made world.old) (W.files world.old) (W.faults world.old) (W.absent world.old)) (seen (W.written world.new) (W.made world.new) (W.files world.new) (W.faults world.new) (W.absent world.new))) }
+// Creates the file of a stream, where it has a name, and counts it as one entry.
+fn create_file<W: World>(
+    world: &mut W,
+    stream: Stream,
+    name: Option<&Text>,
+    done: &mut u64,
+) -> Result<(), SessionFault>
+    requires free { IsCreatable (W.told world.old).made stream }
+    requires few { done.old + 1 < 2 ^ 64 }
+    ensures created { DoneOrStopped (creation stream (option_copied name.entry)) None result (mark done.old (W.told world.old)) (mark done.new (W.told world.new)) }
+    ensures one { done.new ≤ done.old + 1 }
 {
     let Some(name) = name else {
         return Ok(());
     };
     match world.create(stream, name.as_bytes()) {
-        Ok(()) => Ok(()),
-        Err(fault) => Err(fault),
+        Ok(()) => {
+            *done += 1;
+            Ok(())
+        }
+        Err(_) => Err(SessionFault::World {
+            stream,
+            pieces: *done,
+            bytes: 0,
+        }),
     }
 }
 
 /// Creates the files that are wanted, the call log before the waveform.
-pub fn create_files<W: World>(world: &mut W, texts: &Texts) -> Result<(), SessionFault>
-    requires calls { IsCreatable (W.made world.old) CallStream }
-    requires vcd { IsCreatable (W.made world.old) VcdStream }
-    ensures ok { OnOk result (Created (files_of texts.now) (seen (W.written world.old) (W.made world.old) (W.files world.old) (W.faults world.old) (W.absent world.old)) (seen (W.written world.new) (W.made world.new) (W.files world.new) (W.faults world.new) (W.absent world.new))) }
-    ensures err { IfErr result (λ f. Uncreated f (files_of texts.now) (seen (W.written world.old) (W.made world.old) (W.files world.old) (W.faults world.old) (W.absent world.old)) (seen (W.written world.new) (W.made world.new) (W.files world.new) (W.faults world.new) (W.absent world.new))) }
-    ensures opened { OnOk result (IsOpened (is_some texts.now.calls) (is_some texts.now.vcd) (W.made world.new)) }
+pub fn create_files<W: World>(
+    world: &mut W,
+    texts: &Texts,
+    done: &mut u64,
+) -> Result<(), SessionFault>
+    requires calls { IsCreatable (W.told world.old).made CallStream }
+    requires vcd { IsCreatable (W.told world.old).made VcdStream }
+    requires few { done.old + 2 < 2 ^ 64 }
+    ensures created { DoneOrStopped (creations texts.now) None result (mark done.old (W.told world.old)) (mark done.new (W.told world.new)) }
+    ensures opened { OnOk result (IsOpened texts.now (W.told world.new).made) }
+    ensures two { done.new ≤ done.old + 2 }
 {
-    match create_file(world, Stream::Calls, texts.calls.as_ref()) {
-        Ok(()) => {}
-        Err(_) => return Err(SessionFault::Create(Stream::Calls)),
-    }
-    match create_file(world, Stream::Vcd, texts.vcd.as_ref()) {
-        Ok(()) => Ok(()),
-        Err(_) => Err(SessionFault::Create(Stream::Vcd)),
+    match create_file(world, Stream::Calls, texts.calls.as_ref(), done) {
+        Ok(()) => create_file(world, Stream::Vcd, texts.vcd.as_ref(), done),
+        Err(fault) => Err(fault),
     }
 }

@@ -17,10 +17,14 @@
 //!
 //! # The order
 //!
-//! First all room is taken. Then the files that are wanted are created, the call log before the waveform, and the header
-//! is written. Then each eval is made, and its line, its calls and its changes are written, in this order and each by one
-//! `write_all`, before the next one begins. What is written is a list of *pieces*, each for a stream (`specs/Pieces.antt`);
-//! a run that ends early has written the first pieces of this list, and at a fault of the world a part of the next one.
+//! First all memory of the run is taken: room for the values, and for the longest texts that an eval may have
+//! (`specs/Rooms.antt`). From then on nothing takes memory. Then the files that are wanted are created, the call log before
+//! the waveform, and the header is written. Then each eval is made, and its line, its calls, where there are any, and its
+//! changes are written, in this order and each by one `write_all`, before the next one begins.
+//!
+//! What is done is a list of *entries*, creations first and then what is written (`specs/Runs.antt`). A run that ends early
+//! has done the first of them, and at a fault of the world a part of the next one, and tells how many and how much. An eval
+//! that does not converge ends the run before anything of it is written.
 //!
 //! # Inputs and values
 //!
@@ -29,18 +33,19 @@
 //!
 //! # What is proved
 //!
-//! For every runner that keeps the clauses of its trait, every world and all acts that fit the design: at `Ok` the streams
-//! grew by exactly the pieces of `specs/Runs.antt`, the files are those that were wanted, in order, and the machine of the
-//! runner is that after all evals; `Create(stream)` and `World(stream)` come only where the world failed, at that stream; and
-//! at any fault the first files were created and the first pieces were written (`specs/Files.antt`): at `Create` no piece,
-//! and at want of memory before the first eval no file either. What the pieces leave on each stream is `specs/Streams.antt`,
-//! with its laws for the caller (`specs/StreamLaws.antt`): each stream then holds a front of its text. A model with 2^32
-//! words or more, or with a word of more than 128 bits, is answered as one for which there is no memory; no layout has
-//! such words.
+//! For every runner that keeps the clauses of its trait, every world and all acts that fit the design (`RunEnded` in
+//! `specs/Ends.antt`): at `Ok` exactly the entries of the run were done, in order, every eval converged, and the machine of
+//! the runner is that after all of them. At `NoMemory` the world is as it was. At `World` the world failed, so many entries
+//! were done whole, and exactly so many bytes of the next one, which is on the stream that is told. At `NotConverged(k)` eval
+//! k is the first one that does not converge, and exactly the entries before it were done.
+//!
+//! A model with 2^32 words or more, or with a word of more than 128 bits, is answered as one for which there is no memory;
+//! no layout has such words.
 //!
 //! # Cost
 //!
-//! An eval takes time in proportion to the ports, the words, the variables and its texts. Room grows to the longest text.
+//! An eval takes time in proportion to the ports, the words, the variables and its texts, and no memory. The room is that of
+//! the longest texts: for the call log as many times the longest line as an eval can keep calls.
 //!
 //! ```text
 //! module top(input [7:0] a, output [7:0] y);  assign y = a + 1;     set a ff, eval, set a 1, eval
@@ -59,7 +64,9 @@ mod fault;
 mod hex;
 mod line;
 mod log;
+mod open;
 mod piece;
+mod rooms;
 mod session;
 mod texts;
 mod values;

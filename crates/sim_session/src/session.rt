@@ -2,12 +2,13 @@
 use vcd_out::VcdBuf;
 use vs_base::Bits;
 
-/// Room for the texts of an eval.
+/// Room for the longest texts of an eval, and how many entries were done so far.
 #[derive(Drop)]
-pub struct Room {
-    /// The line or the calls.
-    pub text: Vec<u8>,
+pub struct Output {
+    pub line: Vec<u8>,
+    pub log: Vec<u8>,
     pub changes: VcdBuf,
+    pub done: u64,
 }
 
 /// What lasts from eval to eval: what is set, the values after the eval before, the number of the next eval, and room.
@@ -21,14 +22,7 @@ pub struct Session {
     pub before: Vec<Bits>,
     /// Those after the eval under way.
     pub after: Vec<Bits>,
-    pub room: Room,
+    pub out: Output,
     /// The number of the next eval.
     pub number: u64,
-}
-
-/// Which texts are wanted besides standard output.
-#[derive(Clone, Copy)]
-pub struct Wanted {
-    pub logs: bool,
-    pub waves: bool,
 }

@@ -1,6 +1,8 @@
-use Rattle.std.proofs.lemmas.Result.{IfErr-weaker}
-use Rattle.sim_session.specs.PieceLaws.{ended_then}
+use Rattle.sim_session.proofs.EndLaws.{then_or_stopped, stopped_before}
 use Rattle.sim_session.proofs.eval.write_besides.Goals as goal
 
-pub returns-in-Ok-clause-ended : goal.returns-in-Ok-clause-ended
-returns-in-Ok-clause-ended g c = IfErr-weaker c.write_changes.result _ _ (λ f e. ended_then f _ _ _ _ _ c.in-Ok.ensures.ok e) c.write_changes.ensures.ended
+pub returns-in-Ok-clause-wrote : goal.returns-in-Ok-clause-wrote
+returns-in-Ok-clause-wrote g c = then_or_stopped _ _ _ c.write_changes.result _ _ _ c.in-Ok.ensures.wrote.1 c.write_changes.ensures.wrote
+
+pub returns-in-Err-clause-wrote : goal.returns-in-Err-clause-wrote
+returns-in-Err-clause-wrote g c = stopped_before _ _ _ c.in-Err.fault _ _ c.in-Err.ensures.wrote

@@ -1,9 +1,11 @@
-use Rattle.sim_session.specs.PieceLaws.{cut_piece}
+use Rattle.std.proofs.Common.{refl, arith}
+use Rattle.vs_world.specs.EntryLaws.{did_write, broke_write}
 use Rattle.sim_session.proofs.piece.write_piece.Goals as goal
 
-pub returns-in-Err-clause-ended : goal.returns-in-Err-clause-ended
-returns-in-Err-clause-ended g c =
-    let e = c.in-Err.ensures in
-    cut_piece c.args.stream c.args.bytes.now c.in-Err.field-0 _ _
-    (record { written = e.err.1; made = e.made; files = e.files; absent = e.absent; later = e.later })
-    e.cause
+pub returns-in-Ok-clause-wrote : goal.returns-in-Ok-clause-wrote
+returns-in-Ok-clause-wrote g c =
+    let e = c.in-Ok.ensures in (refl, record { did = did_write c.args.stream c.args.bytes.now _ _ e.ok e.rest; count = omega arith })
+
+pub returns-in-Err-clause-wrote : goal.returns-in-Err-clause-wrote
+returns-in-Err-clause-wrote g c =
+    let e = c.in-Err.ensures in (0, omega arith, broke_write c.args.stream c.args.bytes.now c.in-Err.sent _ _ e.err.0 e.err.1 e.rest e.cause)
