@@ -1,4 +1,4 @@
-//! A command with a call log and a waveform, of which a call of the world fails.
+//! Commands of which a call of the world fails, and runs that stop.
 
 use crate::case::{Case, run, try_case};
 use run_status::Status;
@@ -236,6 +236,47 @@ fn a_write_fails_within_a_text(rt: HostRuntime) -> Result<(), Fail> {
             words: &["d.sv"],
             errors: "vsim: ",
             ..early("usage", planned(Op::Write(Stream::Errors), 2), "")
+        },
+    ];
+    for case in &cases {
+        try_case(&rt, alloc, case)?;
+    }
+    Ok(())
+}
+
+// With the clock at 1 the register follows its own edges without end.
+const ENDLESS: &str = "module top(input clk, output logic q);
+always_ff @(posedge clk or posedge q or negedge q) q <= ~q;
+endmodule
+";
+
+// A run that stops at its second eval.
+fn stopped<'a>(title: &'a str, errors: &'a str) -> Case<'a> {
+    Case {
+        status: Status::Refused,
+        errors,
+        ..run(title, ENDLESS, "eval\nclock clk 1\neval\n", "0 q=0\n")
+    }
+}
+
+// What stands on standard output before that eval is kept; the line on standard error comes after it.
+#[test]
+fn an_eval_does_not_converge(rt: HostRuntime) -> Result<(), Fail> {
+    let alloc = rt.alloc();
+    let cases = [
+        stopped("a run stops", "vsim: eval 1: not converged\n"),
+        Case {
+            fails: Some(planned(Op::Write(Stream::Errors), 3)),
+            status: Status::WorldFault,
+            faults: 1,
+            ..stopped("its line is cut short", "vsim: eval ")
+        },
+        Case {
+            fails: Some(planned(Op::Write(Stream::Out), 1)),
+            status: Status::WorldFault,
+            out: "",
+            faults: 1,
+            ..stopped("standard output failed before", "vsim: cannot write out\n")
         },
     ];
     for case in &cases {

@@ -6,7 +6,8 @@
 //!
 //! - `rows`: designs that run, one for each rule that a reader may get wrong.
 //! - `refusals`: a line for each stage of the order of refusals.
-//! - `faults`: one command with a call log and a waveform, of which each read, creation and write fails once.
+//! - `faults`: one command with a call log and a waveform, of which each read, creation and write fails once; and a run
+//!   that stops at an eval that does not converge.
 //!
 //! Want of memory is no case: its answer is free, and with ample memory none of these ends by it.
 #![tactic(auto)]

@@ -17,33 +17,10 @@ fn usage<'a>(title: &'a str, words: &'a [&'a str]) -> Case<'a> {
 fn words_that_set_nothing_are_usage(rt: HostRuntime) -> Result<(), Fail> {
     let alloc = rt.alloc();
     let cases = [
-        usage("no words", &[]),
-        usage("neither a check nor a run", &["d.sv"]),
         usage("both", &["d.sv", "--lint-only", "--stim", "s.txt"]),
-        usage("no file", &["--stim", "s.txt"]),
-        usage(
-            "an option twice",
-            &["d.sv", "--stim", "s.txt", "--stim", "s.txt"],
-        ),
-        usage(
-            "too many threads",
-            &["d.sv", "--stim", "s.txt", "--threads", "17"],
-        ),
-        usage(
-            "no such mode",
-            &["d.sv", "--stim", "s.txt", "--threads-dpi", "some"],
-        ),
-        usage(
-            "a check has no waveform",
-            &["d.sv", "--lint-only", "--vcd", "w.vcd"],
-        ),
         usage(
             "one file for two texts",
             &["d.sv", "--stim", "s.txt", "--calls", "f", "--vcd", "f"],
-        ),
-        usage(
-            "an option that there is not",
-            &["d.sv", "--stim", "s.txt", "--trace"],
         ),
     ];
     for case in &cases {
@@ -72,16 +49,6 @@ fn a_design_is_refused_before_its_stimulus(rt: HostRuntime) -> Result<(), Fail> 
             "vsim: d.sv:4:1: unknown macro C\n",
         ),
         design(
-            "a number that is none",
-            "module top; wire y = 1'b2; endmodule",
-            "vsim: d.sv:1:23: bad number\n",
-        ),
-        design(
-            "a word outside of the subset",
-            "module top; initial ; endmodule",
-            "vsim: d.sv:1:13: not in this subset: initial\n",
-        ),
-        design(
             "no more tokens",
             "module top(output y); assign y =",
             "vsim: syntax error at end of input\n",
@@ -95,40 +62,6 @@ fn a_design_is_refused_before_its_stimulus(rt: HostRuntime) -> Result<(), Fail> 
                 "vsim: e.sv:1:1: open string\n",
             )
         },
-        Case {
-            words: &["d.sv", "e.sv", "--stim", "s.txt"],
-            second: "`else\n",
-            ..design(
-                "a fault of the second file",
-                DESIGN,
-                "vsim: e.sv:1:1: stray else\n",
-            )
-        },
-        Case {
-            words: &["d.sv", "e.sv", "--stim", "s.txt"],
-            second: "module low; endmodule\n",
-            ..design(
-                "two modules, none of them named",
-                DESIGN,
-                "vsim: many top modules\n",
-            )
-        },
-        design("no module", "", "vsim: no top module\n"),
-        design(
-            "a name that is not declared",
-            "module top(output y); assign y = q; endmodule",
-            "vsim: d.sv:1:34: unknown name q\n",
-        ),
-        design(
-            "an input that is too wide",
-            "module top(input [64:0] a); endmodule",
-            "vsim: d.sv:1:18: too wide\n",
-        ),
-        design(
-            "an event of a variable that is no input",
-            "module top(input clk, output logic d0, d1);\nalways_ff @(posedge clk) d0 <= ~d0;\nalways_ff @(posedge d0) d1 <= ~d1;\nendmodule\n",
-            "vsim: d.sv:3:21: derived clock d0\n",
-        ),
     ];
     for case in &cases {
         try_case(&rt, alloc, case)?;
@@ -169,16 +102,6 @@ fn a_model_is_refused_before_its_stimulus(rt: HostRuntime) -> Result<(), Fail> {
             "tick\n",
             "vsim: import vs_next does not answer by arguments alone\n",
         ),
-        design(
-            "too many words",
-            "module top; logic m [65536]; endmodule",
-            "vsim: too many words\n",
-        ),
-        design(
-            "two processes wait for each other",
-            "module top(output a, b); assign a = b; assign b = a; endmodule",
-            "vsim: loop of 2: d.sv:1:33 d.sv:1:47\n",
-        ),
         refused(
             "a check goes up to the model",
             &["d.sv", "--lint-only"],
@@ -218,21 +141,6 @@ fn stimuli_and_files_are_refused(rt: HostRuntime) -> Result<(), Fail> {
             "set a 100\n",
             "vsim: stimulus line 1: value too wide\n",
         ),
-        stimulus(
-            "no such input",
-            "eval\nset b 1\n",
-            "vsim: stimulus line 2: unknown input\n",
-        ),
-        stimulus(
-            "no act",
-            "# a comment\n\ntick\n",
-            "vsim: stimulus line 3: bad line\n",
-        ),
-        stimulus(
-            "too many evals",
-            "clock a 500001\n",
-            "vsim: stimulus line 1: too many evals\n",
-        ),
         absent(
             "no such design",
             &["none.sv", "--stim", "s.txt"],
@@ -242,11 +150,6 @@ fn stimuli_and_files_are_refused(rt: HostRuntime) -> Result<(), Fail> {
             "no such stimulus",
             &["d.sv", "--stim", "none"],
             "vsim: cannot read none\n",
-        ),
-        absent(
-            "a check reads files",
-            &["--lint-only", "none.sv"],
-            "vsim: cannot read none.sv\n",
         ),
     ];
     for case in &cases {

@@ -7,7 +7,8 @@ use Rattle.vs_base.specs.declared.limits.Kind.TheVariants as kind
 use Rattle.sv_lex.specs.declared.file.LexFault.TheVariants as lexing
 use Rattle.sv_names.specs.declared.fault.DesignFault.TheVariants as design
 use Rattle.stimulus.specs.declared.fault.StimFault.TheVariants as stim
-use Rattle.fault_text.specs.FaultText.{Text, too_long, lexing_text, design_text, two_drivers, unknown_import, not_by_arguments, loop_text, stimulus_text}
+use Rattle.run_status.specs.Lines.{Text}
+use Rattle.fault_text.specs.FaultText.{too_long, lexing_text, design_text, two_drivers, unknown_import, not_by_arguments, loop_text, stimulus_text, not_converged}
 
 abbrev files : List Text
 files = codes "d.sv" ∷ codes "e.sv" ∷ []
@@ -46,3 +47,7 @@ loop = refl
 wide : stimulus_text (stim.ValueTooWide 12) ≡ codes "stimulus line 12: value too wide"
 unfolding digits
 wide = refl
+
+endless : not_converged 12 ≡ codes "eval 12: not converged"
+unfolding digits
+endless = refl

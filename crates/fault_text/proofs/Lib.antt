@@ -1,2 +1,1 @@
-mod Tokens
 mod Examples

@@ -1,5 +1,5 @@
--- The text of every fault, in the order in which the manual has them.
-use Rattle.std.specs.Prelude.{ℕ, List, [], ◌∷◌, ◌++◌, length, drop, get_or, slice_get, Option, Some, None, codes, decimal}
+-- The text of every fault, in the order of docs/FORMATS.md.
+use Rattle.std.specs.Prelude.{ℕ, List, [], ◌∷◌, ◌++◌, length, drop, get_or, Option, Some, None, codes, decimal}
 use Rattle.vs_base.specs.declared.origin.Origin.{Origin}
 use Rattle.sv_tree.specs.declared.token.Token.{Token}
 use Rattle.sv_lex.specs.declared.file.LexFault.{LexFault}
@@ -14,11 +14,7 @@ use Rattle.vs_base.specs.declared.limits.Kind.{Kind}
 use Rattle.vs_base.specs.declared.limits.Kind.TheVariants as kind
 use Rattle.stimulus.specs.declared.fault.StimFault.{StimFault}
 use Rattle.stimulus.specs.declared.fault.StimFault.TheVariants as stim
-use Rattle.run_status.specs.Answer.{placed_text}
-use Rattle.run_status.specs.Lines.{listed_text}
-
-abbrev pub Text : Type 0
-Text = List ℕ
+use Rattle.run_status.specs.Lines.{Text, placed_text, listed_text, out_of_memory}
 
 -- a text about a place: the file's name, the line and the column stand before it
 abbrev pub at_place : List Text → Origin → Text → Text
@@ -29,9 +25,6 @@ usage = codes "usage"
 
 abbrev pub too_long : Text → Text
 too_long file = file ++ codes ": longer than 4194304 bytes"
-
-abbrev pub out_of_memory : Text
-out_of_memory = codes "out of memory"
 
 -- ---- tokens
 
@@ -44,9 +37,13 @@ lexing_text files lexing.NoMemory = out_of_memory
 
 -- ---- directives
 
+-- a name's spelling
+abbrev pub text_of : List Text → ℕ → Text
+text_of table name = get_or table name []
+
 -- a name's spelling without the backquote
 abbrev pub unquoted : List Text → ℕ → Text
-unquoted table name = drop 1 (get_or table name [])
+unquoted table name = drop 1 (text_of table name)
 
 abbrev pub preprocessing_text : List Text → List Text → PpFault → Text
 preprocessing_text files table (preprocessing.UnknownMacro at name) = at_place files at (codes "unknown macro " ++ unquoted table name.0)
@@ -59,32 +56,26 @@ preprocessing_text files table preprocessing.NoMemory = out_of_memory
 
 -- ---- the active tokens
 
+abbrev pub spelled : List Text → Option Token → Text
+spelled table None = []
+spelled table (Some t) = text_of table t.name.0
+
 -- a text about a token, or about the end where there is no such token
 abbrev pub of_token : List Text → Option Token → Text → Text → Text
 of_token files None text end = end
 of_token files (Some t) text end = at_place files t.at text
 
-abbrev pub at_token : List Text → List Token → ℕ → Text → Text
-at_token files tokens k text = of_token files (slice_get tokens k) text []
+abbrev pub bad_number : List Text → Origin → Text
+bad_number files at = at_place files at (codes "bad number")
 
-abbrev pub spelled : List Text → Option Token → Text
-spelled table None = []
-spelled table (Some t) = get_or table t.name.0 []
-
-abbrev pub bad_number : List Text → List Token → ℕ → Text
-bad_number files tokens k = at_token files tokens k (codes "bad number")
-
-abbrev pub parsing_text : List Text → List Text → List Token → ParseFault → Text
-parsing_text files table tokens (parsing.Construct k) = at_token files tokens k (codes "not in this subset: " ++ spelled table (slice_get tokens k))
-parsing_text files table tokens (parsing.Syntax k) = of_token files (slice_get tokens k) (codes "syntax error") (codes "syntax error at end of input")
-parsing_text files table tokens (parsing.TooDeep k) = of_token files (slice_get tokens k) (codes "nested too deep") (codes "nested too deep")
-parsing_text files table tokens parsing.NoMemory = out_of_memory
+-- a fault and the token that has its number, where there is one
+abbrev pub parsing_text : List Text → List Text → Option Token → ParseFault → Text
+parsing_text files table token (parsing.Construct k) = of_token files token (codes "not in this subset: " ++ spelled table token) []
+parsing_text files table token (parsing.Syntax k) = of_token files token (codes "syntax error") (codes "syntax error at end of input")
+parsing_text files table token (parsing.TooDeep k) = of_token files token (codes "nested too deep") (codes "nested too deep")
+parsing_text files table token parsing.NoMemory = out_of_memory
 
 -- ---- the design
-
--- a name's spelling
-abbrev pub text_of : List Text → ℕ → Text
-text_of table name = get_or table name []
 
 abbrev pub kind_text : Kind → Text
 kind_text kind.Tokens = codes "tokens"
@@ -116,7 +107,6 @@ design_text files table (design.BadImport at) = at_place files at (codes "bad im
 design_text files table (design.TooWide at) = at_place files at (codes "too wide")
 design_text files table (design.BadRange at) = at_place files at (codes "bad range")
 design_text files table (design.BadEvent at name) = at_place files at (codes "bad event " ++ text_of table name.0)
-design_text files table (design.DerivedClock at name) = at_place files at (codes "derived clock " ++ text_of table name.0)
 design_text files table (design.LoopTurns at) = at_place files at (codes "too many loop turns")
 design_text files table (design.TooMany k) = too_many k
 design_text files table design.NoMemory = out_of_memory
@@ -148,3 +138,9 @@ stimulus_text (stim.UnknownInput line) = of_line line (codes ": unknown input")
 stimulus_text (stim.ValueTooWide line) = of_line line (codes ": value too wide")
 stimulus_text (stim.TooManyEvals line) = of_line line (codes ": too many evals")
 stimulus_text stim.NoMemory = out_of_memory
+
+-- ---- the run
+
+-- the eval of this number, from 0, goes on in rounds without end
+abbrev pub not_converged : ℕ → Text
+not_converged eval = codes "eval " ++ decimal eval ++ codes ": not converged"

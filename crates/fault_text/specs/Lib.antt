@@ -1,2 +1,2 @@
 pub mod FaultText
-pub mod Refusal
+pub mod Endings

@@ -1,16 +1,13 @@
-// The refusal by each fault, in the order of the manual (docs/FORMATS.md).
-ghost use Rattle.std.specs.Prelude.{◌≡◌, ◌<◌, ◌++◌, length, IfSome, slice_get};
-ghost use Rattle.run_status.specs.Answer.{Refuses};
-ghost use Rattle.run_status.specs.Written.{OnlyWrites};
-ghost use Rattle.sv_tree.specs.Tokens.{AreNamed};
-ghost use Rattle.sv_pp.specs.Answer.{IsSpelled};
+// The refusal by each fault, in the order of docs/FORMATS.md.
+ghost use Rattle.std.specs.Prelude.{◌≡◌, ◌++◌};
+ghost use Rattle.run_status.specs.Answer.{Refuses, EndsBy};
 ghost use Rattle.fault_text.specs.FaultText as text;
-ghost use Rattle.fault_text.specs.Refusal.{RefusesLexing, RefusesPreprocessing, RefusesParsing, RefusesDesign, RefusesStimulus};
+ghost use Rattle.fault_text.specs.Endings.{reading_end, lexing_end, preprocessing_end, parsing_end, design_end, stimulus_end};
 
 use itoa::Buffer;
 use parse_expr::ParseFault;
 use run_status::{
-    Status, file_name, out_of_memory, refuse, refuse_about, refuse_at, refuse_listed,
+    Status, cannot_read, file_name, out_of_memory, refuse, refuse_about, refuse_at, refuse_listed,
 };
 use stimulus::StimFault;
 use sv_lex::LexFault;
@@ -18,24 +15,26 @@ use sv_names::DesignFault;
 use sv_pp::{PpFault, without_backquote};
 use sv_tree::{NameId, Names, Token};
 use vs_base::{Kind, Origin, Text};
-use vs_world::World;
+use vs_world::{ReadFault, World};
 
 const MANY_TOKENS: &[u8] = b"too many tokens";
 
 /// Refuses words that are no command.
 pub fn refuse_words<W: World>(world: &mut W) -> Status
-    ensures told { Refuses result text.usage (W.written world.old) (W.written world.new) (W.faults world.old) (W.faults world.new) }
-    ensures rest { OnlyWrites (W.faults world.old) (W.faults world.new) (W.absent world.old) (W.absent world.new) (W.files world.old) (W.files world.new) (W.made world.old) (W.made world.new) }
+    ensures told { Refuses result text.usage (W.told world.old) (W.told world.new) }
 {
     refuse(world, b"usage", b"")
 }
 
-/// Refuses a file that is too long.
-pub fn refuse_length<W: World>(world: &mut W, file: &[u8]) -> Status
-    ensures told { Refuses result (text.too_long file.now) (W.written world.old) (W.written world.new) (W.faults world.old) (W.faults world.new) }
-    ensures rest { OnlyWrites (W.faults world.old) (W.faults world.new) (W.absent world.old) (W.absent world.new) (W.files world.old) (W.files world.new) (W.made world.old) (W.made world.new) }
+/// Ends by a file that was not read: it is too long, reading failed or it is not there, or memory ran out.
+pub fn refuse_reading<W: World>(world: &mut W, name: &[u8], fault: ReadFault) -> Status
+    ensures told { EndsBy result (reading_end name.now fault) (W.told world.old) (W.told world.new) }
 {
-    refuse(world, file, b": longer than 4194304 bytes")
+    match fault {
+        ReadFault::World => cannot_read(world, name),
+        ReadFault::TooLong => refuse(world, name, b": longer than 4194304 bytes"),
+        ReadFault::NoMemory => out_of_memory(world),
+    }
 }
 
 // Refuses by a text about a place.
@@ -46,16 +45,14 @@ fn refuse_place<W: World>(
     start: &[u8],
     end: &[u8],
 ) -> Status
-    ensures told { Refuses result (text.at_place files.now at (start.now ++ end.now)) (W.written world.old) (W.written world.new) (W.faults world.old) (W.faults world.new) }
-    ensures rest { OnlyWrites (W.faults world.old) (W.faults world.new) (W.absent world.old) (W.absent world.new) (W.files world.old) (W.files world.new) (W.made world.old) (W.made world.new) }
+    ensures told { Refuses result (text.at_place files.now at (start.now ++ end.now)) (W.told world.old) (W.told world.new) }
 {
     refuse_at(world, file_name(files, at.file as usize), at, start, end)
 }
 
 /// Refuses by a fault of lexing.
 pub fn refuse_lexing<W: World>(world: &mut W, files: &[Text], fault: LexFault) -> Status
-    ensures told { RefusesLexing result files.now fault (W.written world.old) (W.written world.new) (W.faults world.old) (W.faults world.new) }
-    ensures rest { OnlyWrites (W.faults world.old) (W.faults world.new) (W.absent world.old) (W.absent world.new) (W.files world.old) (W.files world.new) (W.made world.old) (W.made world.new) }
+    ensures told { EndsBy result (lexing_end files.now fault) (W.told world.old) (W.told world.new) }
 {
     match fault {
         LexFault::BadChar(at) => refuse_place(world, files, at, b"bad character", b""),
@@ -64,6 +61,16 @@ pub fn refuse_lexing<W: World>(world: &mut W, files: &[Text], fault: LexFault) -
         LexFault::TooMany => refuse(world, MANY_TOKENS, b""),
         LexFault::NoMemory => out_of_memory(world),
     }
+}
+
+// The spelling of a name, empty where the table has no such name.
+fn text_of(names: &Names, name: NameId) -> &[u8]
+    ensures { result.now ≡ text.text_of names.now name.0 }
+{
+    if (name.0 as usize) < names.len() {
+        return names.text(name);
+    }
+    &[]
 }
 
 // Refuses by a text with a directive's name.
@@ -75,11 +82,15 @@ fn refuse_directive<W: World>(
     names: &Names,
     name: NameId,
 ) -> Status
-    requires known { name.0 < length names.now }
-    ensures told { Refuses result (text.at_place files.now at (start.now ++ text.unquoted names.now name.0)) (W.written world.old) (W.written world.new) (W.faults world.old) (W.faults world.new) }
-    ensures rest { OnlyWrites (W.faults world.old) (W.faults world.new) (W.absent world.old) (W.absent world.new) (W.files world.old) (W.files world.new) (W.made world.old) (W.made world.new) }
+    ensures told { Refuses result (text.at_place files.now at (start.now ++ text.unquoted names.now name.0)) (W.told world.old) (W.told world.new) }
 {
-    refuse_place(world, files, at, start, without_backquote(names.text(name)))
+    refuse_place(
+        world,
+        files,
+        at,
+        start,
+        without_backquote(text_of(names, name)),
+    )
 }
 
 /// Refuses by a fault of preprocessing.
@@ -89,9 +100,7 @@ pub fn refuse_preprocessing<W: World>(
     names: &Names,
     fault: PpFault,
 ) -> Status
-    requires spelled { IsSpelled names.now fault }
-    ensures told { RefusesPreprocessing result files.now names.now fault (W.written world.old) (W.written world.new) (W.faults world.old) (W.faults world.new) }
-    ensures rest { OnlyWrites (W.faults world.old) (W.faults world.new) (W.absent world.old) (W.absent world.new) (W.files world.old) (W.files world.new) (W.made world.old) (W.made world.new) }
+    ensures told { EndsBy result (preprocessing_end files.now names.now fault) (W.told world.old) (W.told world.new) }
 {
     match fault {
         PpFault::UnknownMacro(at, name) => {
@@ -108,13 +117,11 @@ pub fn refuse_preprocessing<W: World>(
     }
 }
 
-/// Refuses a number whose spelling is none: the token of this number, from 0.
-pub fn refuse_number<W: World>(world: &mut W, files: &[Text], tokens: &[Token], k: u32) -> Status
-    requires within { k < length tokens.now }
-    ensures told { Refuses result (text.bad_number files.now tokens.now k) (W.written world.old) (W.written world.new) (W.faults world.old) (W.faults world.new) }
-    ensures rest { OnlyWrites (W.faults world.old) (W.faults world.new) (W.absent world.old) (W.absent world.new) (W.files world.old) (W.files world.new) (W.made world.old) (W.made world.new) }
+/// Refuses a number whose spelling is none, at its place.
+pub fn refuse_number<W: World>(world: &mut W, files: &[Text], at: Origin) -> Status
+    ensures told { Refuses result (text.bad_number files.now at) (W.told world.old) (W.told world.new) }
 {
-    refuse_place(world, files, tokens[k as usize].at, b"bad number", b"")
+    refuse_place(world, files, at, b"bad number", b"")
 }
 
 // Refuses by a text about a token, or about the end where there is no such token.
@@ -126,8 +133,7 @@ fn refuse_token<W: World>(
     end: &[u8],
     past: &[u8],
 ) -> Status
-    ensures told { Refuses result (text.of_token files.now token (start.now ++ end.now) past.now) (W.written world.old) (W.written world.new) (W.faults world.old) (W.faults world.new) }
-    ensures rest { OnlyWrites (W.faults world.old) (W.faults world.new) (W.absent world.old) (W.absent world.new) (W.files world.old) (W.files world.new) (W.made world.old) (W.made world.new) }
+    ensures told { Refuses result (text.of_token files.now token (start.now ++ end.now) past.now) (W.told world.old) (W.told world.new) }
 {
     match token {
         Some(token) => refuse_place(world, files, token.at, start, end),
@@ -135,76 +141,41 @@ fn refuse_token<W: World>(
     }
 }
 
-// The token of a number, where there is one.
-fn token_at(tokens: &[Token], k: u32) -> Option<Token>
-    ensures { result ≡ slice_get tokens.now k }
-{
-    tokens.get(k as usize).copied()
-}
-
 // The spelling of a token, empty where there is none.
 fn spelling_of<'a>(names: &'a Names, token: Option<Token>) -> &'a [u8]
-    requires { IfSome token (λ t. t.name.0 < length names.now) }
     ensures { result.now ≡ text.spelled names.now token }
 {
     match token {
-        Some(token) => names.text(token.name),
+        Some(token) => text_of(names, token.name),
         None => &[],
     }
 }
 
-/// Refuses by a fault of parsing.
+/// Refuses by a fault of parsing. `token` is the one that has the number which the fault tells, where there is one.
 pub fn refuse_parsing<W: World>(
     world: &mut W,
     files: &[Text],
     names: &Names,
-    tokens: &[Token],
+    token: Option<Token>,
     fault: ParseFault,
 ) -> Status
-    requires named { AreNamed names.now tokens.now }
-    ensures told { RefusesParsing result files.now names.now tokens.now fault (W.written world.old) (W.written world.new) (W.faults world.old) (W.faults world.new) }
-    ensures rest { OnlyWrites (W.faults world.old) (W.faults world.new) (W.absent world.old) (W.absent world.new) (W.files world.old) (W.files world.new) (W.made world.old) (W.made world.new) }
+    ensures told { EndsBy result (parsing_end files.now names.now token fault) (W.told world.old) (W.told world.new) }
 {
     match fault {
-        ParseFault::Construct(k) => {
-            let token = token_at(tokens, k);
+        ParseFault::Construct(_) => {
             let spelling = spelling_of(names, token);
             refuse_token(world, files, token, b"not in this subset: ", spelling, b"")
         }
-        ParseFault::Syntax(k) => {
-            let token = token_at(tokens, k);
-            refuse_token(
-                world,
-                files,
-                token,
-                b"syntax error",
-                b"",
-                b"syntax error at end of input",
-            )
+        ParseFault::Syntax(_) => {
+            let end = b"syntax error at end of input";
+            refuse_token(world, files, token, b"syntax error", b"", end)
         }
-        ParseFault::TooDeep(k) => {
-            let token = token_at(tokens, k);
-            refuse_token(
-                world,
-                files,
-                token,
-                b"nested too deep",
-                b"",
-                b"nested too deep",
-            )
+        ParseFault::TooDeep(_) => {
+            let end = b"nested too deep";
+            refuse_token(world, files, token, b"nested too deep", b"", end)
         }
         ParseFault::NoMemory => out_of_memory(world),
     }
-}
-
-// The spelling of a name, empty where the table has no such name.
-fn text_of(names: &Names, name: NameId) -> &[u8]
-    ensures { result.now ≡ text.text_of names.now name.0 }
-{
-    if (name.0 as usize) < names.len() {
-        return names.text(name);
-    }
-    &[]
 }
 
 // What there may be too many of.
@@ -225,8 +196,7 @@ fn kind_text(kind: Kind) -> &'static [u8]
 
 /// Refuses a design that has more of something than it may have.
 pub fn refuse_too_many<W: World>(world: &mut W, kind: Kind) -> Status
-    ensures told { Refuses result (text.too_many kind) (W.written world.old) (W.written world.new) (W.faults world.old) (W.faults world.new) }
-    ensures rest { OnlyWrites (W.faults world.old) (W.faults world.new) (W.absent world.old) (W.absent world.new) (W.files world.old) (W.files world.new) (W.made world.old) (W.made world.new) }
+    ensures told { Refuses result (text.too_many kind) (W.told world.old) (W.told world.new) }
 {
     refuse(world, b"too many ", kind_text(kind))
 }
@@ -238,8 +208,7 @@ pub fn refuse_design<W: World>(
     names: &Names,
     fault: DesignFault,
 ) -> Status
-    ensures told { RefusesDesign result files.now names.now fault (W.written world.old) (W.written world.new) (W.faults world.old) (W.faults world.new) }
-    ensures rest { OnlyWrites (W.faults world.old) (W.faults world.new) (W.absent world.old) (W.absent world.new) (W.files world.old) (W.files world.new) (W.made world.old) (W.made world.new) }
+    ensures told { EndsBy result (design_end files.now names.now fault) (W.told world.old) (W.told world.new) }
 {
     match fault {
         DesignFault::NoTop => refuse(world, b"no top module", b""),
@@ -267,9 +236,6 @@ pub fn refuse_design<W: World>(
         DesignFault::BadEvent(at, name) => {
             refuse_place(world, files, at, b"bad event ", text_of(names, name))
         }
-        DesignFault::DerivedClock(at, name) => {
-            refuse_place(world, files, at, b"derived clock ", text_of(names, name))
-        }
         DesignFault::LoopTurns(at) => refuse_place(world, files, at, b"too many loop turns", b""),
         DesignFault::TooMany(kind) => refuse_too_many(world, kind),
         DesignFault::NoMemory => out_of_memory(world),
@@ -284,24 +250,21 @@ pub fn refuse_drivers<W: World>(
     one: Origin,
     two: Origin,
 ) -> Status
-    ensures told { Refuses result (text.two_drivers files.now bit.now one two) (W.written world.old) (W.written world.new) (W.faults world.old) (W.faults world.new) }
-    ensures rest { OnlyWrites (W.faults world.old) (W.faults world.new) (W.absent world.old) (W.absent world.new) (W.files world.old) (W.files world.new) (W.made world.old) (W.made world.new) }
+    ensures told { Refuses result (text.two_drivers files.now bit.now one two) (W.told world.old) (W.told world.new) }
 {
     refuse_listed(world, files, b"two drivers of ", bit, &[one, two])
 }
 
 /// Refuses an import of a name that the host does not have.
 pub fn refuse_unknown_import<W: World>(world: &mut W, name: &[u8]) -> Status
-    ensures told { Refuses result (text.unknown_import name.now) (W.written world.old) (W.written world.new) (W.faults world.old) (W.faults world.new) }
-    ensures rest { OnlyWrites (W.faults world.old) (W.faults world.new) (W.absent world.old) (W.absent world.new) (W.files world.old) (W.files world.new) (W.made world.old) (W.made world.new) }
+    ensures told { Refuses result (text.unknown_import name.now) (W.told world.old) (W.told world.new) }
 {
     refuse_about(world, b"import ", name, b" is unknown")
 }
 
 /// Refuses an import that is deemed safe and whose answers are not by its arguments alone.
 pub fn refuse_not_by_arguments<W: World>(world: &mut W, name: &[u8]) -> Status
-    ensures told { Refuses result (text.not_by_arguments name.now) (W.written world.old) (W.written world.new) (W.faults world.old) (W.faults world.new) }
-    ensures rest { OnlyWrites (W.faults world.old) (W.faults world.new) (W.absent world.old) (W.absent world.new) (W.files world.old) (W.files world.new) (W.made world.old) (W.made world.new) }
+    ensures told { Refuses result (text.not_by_arguments name.now) (W.told world.old) (W.told world.new) }
 {
     refuse_about(
         world,
@@ -313,8 +276,7 @@ pub fn refuse_not_by_arguments<W: World>(world: &mut W, name: &[u8]) -> Status
 
 /// Refuses processes that wait for each other: their places.
 pub fn refuse_loop<W: World>(world: &mut W, files: &[Text], places: &[Origin]) -> Status
-    ensures told { Refuses result (text.loop_text files.now places.now) (W.written world.old) (W.written world.new) (W.faults world.old) (W.faults world.new) }
-    ensures rest { OnlyWrites (W.faults world.old) (W.faults world.new) (W.absent world.old) (W.absent world.new) (W.files world.old) (W.files world.new) (W.made world.old) (W.made world.new) }
+    ensures told { Refuses result (text.loop_text files.now places.now) (W.told world.old) (W.told world.new) }
 {
     let mut digits = Buffer::new();
     let count = digits.format(places.len()).as_bytes();
@@ -323,8 +285,7 @@ pub fn refuse_loop<W: World>(world: &mut W, files: &[Text], places: &[Origin]) -
 
 // Refuses by a text about a line of the stimulus.
 fn refuse_line<W: World>(world: &mut W, line: u32, end: &[u8]) -> Status
-    ensures told { Refuses result (text.of_line line end.now) (W.written world.old) (W.written world.new) (W.faults world.old) (W.faults world.new) }
-    ensures rest { OnlyWrites (W.faults world.old) (W.faults world.new) (W.absent world.old) (W.absent world.new) (W.files world.old) (W.files world.new) (W.made world.old) (W.made world.new) }
+    ensures told { Refuses result (text.of_line line end.now) (W.told world.old) (W.told world.new) }
 {
     let mut digits = Buffer::new();
     let line = digits.format(line).as_bytes();
@@ -333,8 +294,7 @@ fn refuse_line<W: World>(world: &mut W, line: u32, end: &[u8]) -> Status
 
 /// Refuses by a fault of the stimulus.
 pub fn refuse_stimulus<W: World>(world: &mut W, fault: StimFault) -> Status
-    ensures told { RefusesStimulus result fault (W.written world.old) (W.written world.new) (W.faults world.old) (W.faults world.new) }
-    ensures rest { OnlyWrites (W.faults world.old) (W.faults world.new) (W.absent world.old) (W.absent world.new) (W.files world.old) (W.files world.new) (W.made world.old) (W.made world.new) }
+    ensures told { EndsBy result (stimulus_end fault) (W.told world.old) (W.told world.new) }
 {
     match fault {
         StimFault::BadLine(line) => refuse_line(world, line, b": bad line"),
@@ -343,4 +303,13 @@ pub fn refuse_stimulus<W: World>(world: &mut W, fault: StimFault) -> Status
         StimFault::TooManyEvals(line) => refuse_line(world, line, b": too many evals"),
         StimFault::NoMemory => out_of_memory(world),
     }
+}
+
+/// Refuses a run at the eval of this number, from 0, which does not converge.
+pub fn refuse_eval<W: World>(world: &mut W, eval: u64) -> Status
+    ensures told { Refuses result (text.not_converged eval) (W.told world.old) (W.told world.new) }
+{
+    let mut digits = Buffer::new();
+    let eval = digits.format(eval).as_bytes();
+    refuse_about(world, b"eval ", eval, b": not converged")
 }

@@ -1,37 +1,51 @@
--- What is read of a file, and why its bytes are not there.
-use Rattle.std.specs.Prelude.{◌≡◌, ◌++◌, ℕ, List, length, Option, Some, None, if◌then◌else◌, nat_le, codes, Vec}
-use Rattle.std.specs.Option.{option_map}
-use Rattle.std.specs.declared.alloc.Global.{Global}
-use Rattle.vs_world.specs.Outside.{Files, Written, ReadCause}
-use Rattle.run_status.specs.declared.status.Status.{Status}
-use Rattle.run_status.specs.declared.status.Status.TheVariants as status
-use Rattle.run_status.specs.Answer.{Tells}
-use Rattle.run_input.specs.declared.file.InputFault.{InputFault}
-use Rattle.run_input.specs.declared.file.InputFault.TheVariants as fault
+-- What is read of the files that a command names, one after another.
+use Rattle.std.specs.Prelude.{◌≡◌, ◌⊎◌, ◌<◌, ℕ, List, [], ◌∷◌, length, get_or, Option, Some, None, IfSome, if◌then◌else◌, nat_le}
+use Rattle.std.proofs.Common.{inl, inr}
+use Rattle.vs_world.specs.Outside.{Files, Told, Rose}
+use Rattle.vs_world.specs.declared.whole.ReadFault.{ReadFault}
+use Rattle.vs_world.specs.declared.whole.ReadFault.TheVariants as fault
+use Rattle.run_status.specs.Lines.{Text}
+use Rattle.run_input.specs.declared.files.Stop.{Stop}
+
+abbrev pub Bytes : Type 0
+Bytes = List ℕ
 
 -- the most bytes that a file may have
 abbrev pub file_limit : ℕ
 file_limit = 4194304
 
--- what is read of a file: its bytes, or none where it is too long
-abbrev pub short : List ℕ → Option (List ℕ)
-short bytes = if nat_le (length bytes) file_limit then Some bytes else None
+-- a file of this name that is not read: it is not there, or it is too long
+pub data NotRead : Type 0 where
+  Missing : Text → NotRead
+  Long : Text → NotRead
 
--- the bytes that were read
-abbrev pub contents : Option (Vec ℕ Global) → Option (List ℕ)
-contents v = option_map (λ (w : Vec ℕ Global). w.items) v
+-- what is read of a file that is there
+abbrev pub short_or : Text → Bytes → NotRead ⊎ Bytes
+short_or name bytes = if nat_le (length bytes) file_limit then inr bytes else inl (Long name)
 
--- what was read of a file that is there
-abbrev pub IsInput : Option (List ℕ) → Option (Vec ℕ Global) → Type 0
-IsInput None v = ⊥
-IsInput (Some bytes) v = contents v ≡ short bytes
+abbrev pub file_read : Text → Option Bytes → NotRead ⊎ Bytes
+file_read name None = inl (Missing name)
+file_read name (Some bytes) = short_or name bytes
 
--- why a read failed
-abbrev pub InputCause : InputFault → Option Files → List ℕ → ℕ → ℕ → ℕ → ℕ → Type 0
-InputCause fault.World told name faults faults' absent absent' = ReadCause told name faults faults' absent absent'
-InputCause fault.NoMemory told name faults faults' absent absent' = Unit {0}
+abbrev pub with_rest : NotRead ⊎ Bytes → NotRead ⊎ List Bytes → NotRead ⊎ List Bytes
+with_rest (inl not) rest = inl not
+with_rest (inr bytes) (inl not) = inl not
+with_rest (inr bytes) (inr more) = inr (bytes ∷ more)
 
--- the status and the line after a failing read
-abbrev pub Unreads : Status → InputFault → List ℕ → Option Written → Option Written → ℕ → ℕ → Type 0
-Unreads s fault.World name told told' faults faults' = (s ≡ status.WorldFault) × Tells (codes "cannot read " ++ name) told told' faults faults'
-Unreads s fault.NoMemory name told told' faults faults' = (s ≡ status.NoMemory) × Tells (codes "out of memory") told told' faults faults'
+-- the bytes of all files, or the first that is not there or is too long
+abbrev pub all_read : Files → List Text → NotRead ⊎ List Bytes
+all_read files [] = inr []
+all_read files (name ∷ names) = with_rest (file_read name (files name)) (all_read files names)
+
+-- ---- as the code reads them
+
+-- why a file of this name was not read, where the files say that it is not; or faults rose, or memory ran out
+abbrev pub WhyNot : (NotRead → Type 0) → ReadFault → Text → Told → Told → Type 0
+WhyNot Is fault.World name before now = Rose before.faults now.faults ⊎ (Rose before.absent now.absent × Is (Missing name))
+WhyNot Is fault.TooLong name before now = Is (Long name)
+WhyNot Is fault.NoMemory name before now = Unit {0}
+
+-- why the files were not all read
+pub record Stops (s : Stop) (names : List Text) (before now : Told) : Type 0 where
+  pub within : s.at < length names
+  pub why : WhyNot (λ not. IfSome before.files (λ files. all_read files names ≡ inl not)) s.fault (get_or names s.at []) before now

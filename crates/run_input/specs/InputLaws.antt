@@ -1,43 +1,87 @@
--- From a failing read to what a status says.
-use Rattle.std.proofs.Common.{◌≡◌, ◌⊎◌, ◌≤◌, ℕ, List, ◌++◌, Option, ap, ◌∙◌, subst, inl, inr, arith}
-use Rattle.std.specs.Prelude.{codes, Contains}
-use Rattle.std.specs.Option.{option_map}
-use Rattle.vs_world.specs.declared.world.Stream.TheVariants.{Errors}
-use Rattle.vs_world.specs.Outside.{Files, Written, Made, appended, IsMissing, Rose}
-use Rattle.vs_world.specs.CountLaws.{rose_before, rose_between}
-use Rattle.run_status.specs.declared.status.Status.{Status}
-use Rattle.run_status.specs.Written.{Said}
-use Rattle.run_status.specs.Answer.{Answer, Unread, error_line, Tells, Table}
-use Rattle.run_status.specs.AnswerLaws.{memory_wanted, read_failed, file_missing}
-use Rattle.run_input.specs.declared.file.InputFault.{InputFault}
-use Rattle.run_input.specs.declared.file.InputFault.TheVariants as fault
-use Rattle.run_input.specs.Input.{InputCause, Unreads}
+-- How files are read, one and then the next.
+use Rattle.std.proofs.Common.{◌≡◌, ◌⊎◌, ◌≤◌, ◌<◌, ◌+◌, ℕ, List, [], ◌∷◌, ◌++◌, length, drop, get_or, Option, Some, None, cond, refl, sym, ap, ◌∙◌, inl, inr, append_assoc}
+use Rattle.std.specs.Prelude.{IfSome}
+use Rattle.std.proofs.lemmas.Bool.{le-leb, lt-leb}
+use Rattle.std.proofs.lemmas.List.{drop_more}
+use Rattle.vs_world.specs.Outside.{Files, Told, IsMissing, IsWhole, IsLonger, ReadCause, Rose}
+use Rattle.vs_world.specs.CountLaws.{rose_between}
+use Rattle.vs_world.specs.declared.whole.ReadFault.{ReadFault}
+use Rattle.vs_world.specs.declared.whole.ReadFault.TheVariants as fault
+use Rattle.run_status.specs.Lines.{Text}
+use Rattle.run_status.specs.Answer.{Leaves}
+use Rattle.run_input.specs.Input.{Bytes, file_limit, NotRead, Missing, Long, short_or, file_read, with_rest, all_read, WhyNot}
 
--- why a file's bytes are not there: memory ran out, faults rose, or it is not there and that is an answer
-abbrev pub UnreadCause : (Answer → Type 0) → List ℕ → ℕ → ℕ → ℕ → ℕ → InputFault → Type 0
-UnreadCause Allowed name f f' n n' fault.NoMemory = Unit {0}
-UnreadCause Allowed name f f' n n' fault.World = Rose f f' ⊎ (Rose n n' × Allowed (Unread name))
+-- ---- one file, as a read tells it
 
-module _ (Allowed : Answer → Type 0) (named : List (List ℕ)) (name : List ℕ) (files : Option Files) (told told1 told2 : Option Written) (made made1 made2 : Option Made) (f0 f1 f2 f3 n0 n1 n2 n3 : ℕ) (s : Status) where
-  tells_later : (text : List ℕ) → f0 ≤ f2 → Tells text told1 told2 f2 f3 → told1 ≡ told → Tells text told told2 f0 f3
-  tells_later text p (inl whole) same = inl (whole ∙ ap (option_map (appended Errors (error_line text))) same)
-  tells_later text p (inr failed) same = inr (subst (λ (w : Option Written). Said Errors (error_line text) w told2) same failed.0, rose_between f0 f2 f3 p failed.1)
+short_whole : (name : Text) (bytes : Bytes) → length bytes ≤ file_limit → short_or name bytes ≡ inr bytes
+short_whole name bytes h = ap (λ b. cond b (inr bytes) (inl (Long name))) (le-leb (length bytes) file_limit h)
 
-  pub unread_ends : (fault : InputFault) → (a : Answer) × Allowed a → Contains named name → UnreadCause Allowed name f1 f2 n1 n2 fault
-      → f0 ≤ f1 → f1 ≤ f2 → n0 ≤ n1 → f2 ≤ f3 → n2 ≤ n3 → told1 ≡ told → made1 ≡ made → made2 ≡ made1 → Unreads s fault name told1 told2 f2 f3 → Table Allowed s named told told2 made made2 f0 f3 n0 n3
-  unread_ends fault.NoMemory some among cause p p' q r t same created kept said =
-      memory_wanted Allowed named told told2 made made2 f0 f3 n0 n3 s some.0 said.0 some.1 (kept ∙ created) (tells_later (codes "out of memory") (omega arith) said.1 same)
-  unread_ends fault.World some among (inl rose) p p' q r t same created kept said =
-      read_failed Allowed named told told2 made made2 f0 f3 n0 n3 s name some.0 said.0 some.1 among (kept ∙ created) (rose_before f0 f2 f3 (rose_between f0 f1 f2 p rose) r) (tells_later (codes "cannot read " ++ name) (omega arith) said.1 same)
-  unread_ends fault.World some among (inr absent) p p' q r t same created kept said =
-      file_missing Allowed named told told2 made made2 f0 f3 n0 n3 s name said.0 absent.1 among (kept ∙ created) (rose_before n0 n2 n3 (rose_between n0 n1 n2 q absent.0) t) (tells_later (codes "cannot read " ++ name) (omega arith) said.1 same)
+short_long : (name : Text) (bytes : Bytes) → file_limit < length bytes → short_or name bytes ≡ inl (Long name)
+short_long name bytes h = ap (λ b. cond b (inr bytes) (inl (Long name))) (lt-leb (length bytes) file_limit h)
 
-  causes : (fault : InputFault) → (IsMissing files name → Allowed (Unread name)) → InputCause fault files name f1 f2 n1 n2 → UnreadCause Allowed name f1 f2 n1 n2 fault
-  causes fault.NoMemory missing cause = tt
-  causes fault.World missing (inl rose) = inl rose
-  causes fault.World missing (inr absent) = inr (absent.0, missing absent.1)
+module _ (name : Text) where
+  -- it was read whole
+  pub read_whole : (told : Option Files) (bytes : Bytes) → IsWhole told name bytes → length bytes ≤ file_limit → IfSome told (λ files. file_read name (files name) ≡ inr bytes)
+  read_whole None bytes is few = tt
+  read_whole (Some files) bytes is few = ap (file_read name) is ∙ short_whole name bytes few
 
-  -- the same from what a read tells
-  pub unread_table : (fault : InputFault) → (a : Answer) × Allowed a → Contains named name → (IsMissing files name → Allowed (Unread name)) → InputCause fault files name f1 f2 n1 n2
-      → f0 ≤ f1 → f1 ≤ f2 → n0 ≤ n1 → f2 ≤ f3 → n2 ≤ n3 → told1 ≡ told → made1 ≡ made → made2 ≡ made1 → Unreads s fault name told1 told2 f2 f3 → Table Allowed s named told told2 made made2 f0 f3 n0 n3
-  unread_table fault some among missing cause = unread_ends fault some among (causes fault missing cause)
+  -- it is too long
+  pub read_long : (told : Option Files) → IsLonger told name file_limit → IfSome told (λ files. file_read name (files name) ≡ inl (Long name))
+  read_long None is = tt
+  read_long (Some files) is = ap (file_read name) is.1 ∙ short_long name is.0 is.2
+
+  -- it is not there
+  pub read_missing : (told : Option Files) → IsMissing told name → IfSome told (λ files. file_read name (files name) ≡ inl (Missing name))
+  read_missing None is = tt
+  read_missing (Some files) is = ap (file_read name) is
+
+  -- why one read failed
+  pub why_not : (f : ReadFault) (a b : Told) → (f ≡ fault.World → ReadCause name a b) → (f ≡ fault.TooLong → IsLonger a.files name file_limit) → WhyNot (λ not. IfSome a.files (λ files. file_read name (files name) ≡ inl not)) f name a b
+  why_not fault.World a b cause long = by (cause refl)
+    where
+      by : ReadCause name a b → Rose a.faults b.faults ⊎ (Rose a.absent b.absent × IfSome a.files (λ files. file_read name (files name) ≡ inl (Missing name)))
+      by (inl rose) = inl rose
+      by (inr missing) = inr (missing.0, read_missing a.files missing.1)
+  why_not fault.TooLong a b cause long = read_long a.files (long refl)
+  why_not fault.NoMemory a b cause long = tt
+
+-- what holds of a file that is not read, from an earlier moment on and by another cause
+pub why_later : (P Q : NotRead → Type 0) (f : ReadFault) (name : Text) (a b c : Told) → ((not : NotRead) → P not → Q not) → Leaves [] a b → WhyNot P f name b c → WhyNot Q f name a c
+why_later P Q fault.World name a b c into left (inl rose) = inl (rose_between a.faults b.faults c.faults left.faults rose)
+why_later P Q fault.World name a b c into left (inr missing) = inr (rose_between a.absent b.absent c.absent left.absent missing.0, into (Missing name) missing.1)
+why_later P Q fault.TooLong name a b c into left long = into (Long name) long
+why_later P Q fault.NoMemory name a b c into left wants = tt
+
+-- ---- one file after another
+
+-- what was read before comes first
+abbrev pub before : List Bytes → NotRead ⊎ List Bytes → NotRead ⊎ List Bytes
+before done (inl not) = inl not
+before done (inr more) = inr (done ++ more)
+
+before_one : (done : List Bytes) (bytes : Bytes) (rest : NotRead ⊎ List Bytes) → before done (with_rest (inr bytes) rest) ≡ before (done ++ bytes ∷ []) rest
+before_one done bytes (inl not) = refl
+before_one done bytes (inr more) = ap inr (sym (append_assoc done (bytes ∷ []) more))
+
+-- so many files were read, and nothing of it changes what is read of all
+abbrev pub ReadsOn : Option Files → List Text → ℕ → List Bytes → Type 0
+ReadsOn told names at done = IfSome told (λ files. before done (all_read files (drop at names)) ≡ all_read files names)
+
+module _ (names : List Text) (at : ℕ) (done : List Bytes) (within : at < length names) where
+  abbrev name : Text
+  name = get_or names at []
+
+  at_name : (files : Files) → before done (all_read files (drop at names)) ≡ all_read files names → before done (with_rest (file_read name (files name)) (all_read files (drop (at + 1) names))) ≡ all_read files names
+  at_name files is = ap (λ (l : List Text). before done (all_read files l)) (sym (drop_more names at [] within)) ∙ is
+
+  -- it was read
+  pub read_on : (told : Option Files) (bytes : Bytes) → ReadsOn told names at done → IfSome told (λ files. file_read name (files name) ≡ inr bytes) → ReadsOn told names (at + 1) (done ++ bytes ∷ [])
+  read_on None bytes is read = tt
+  read_on (Some files) bytes is read =
+      let rest = all_read files (drop (at + 1) names) in
+      sym (before_one done bytes rest) ∙ ap (λ (r : NotRead ⊎ Bytes). before done (with_rest r rest)) (sym read) ∙ at_name files is
+
+  -- it was not
+  pub read_not : (told : Option Files) → ReadsOn told names at done → (not : NotRead) → IfSome told (λ files. file_read name (files name) ≡ inl not) → IfSome told (λ files. all_read files names ≡ inl not)
+  read_not None is not read = tt
+  read_not (Some files) is not read = sym (at_name files is) ∙ ap (λ (r : NotRead ⊎ Bytes). before done (with_rest r (all_read files (drop (at + 1) names)))) read

@@ -1,17 +1,16 @@
-//! The files that a command names: their bytes, and the line that tells why they are not there.
+//! The files that a command names: their bytes, or the first that is not read, and why.
 //!
 //! A file has at most 4,194,304 bytes. A longer one is told apart from one that cannot be read, since its command is
-//! refused and not at fault. `specs/Input.antt` says what is read of a file; `specs/InputLaws.antt` leads from a failing
-//! read to the table of `run_status`.
+//! refused and not at fault. `specs/Input.antt` says what is read of a list of files; `specs/InputLaws.antt` has its laws,
+//! for one file and for the next.
 //!
-//! Cost: linear in the bytes of the file. The line on standard error takes no memory.
+//! Cost: linear in the bytes of the files.
 //!
 //! ```text
-//! input(alloc, world, b"d.sv")                         // the bytes, None where they are too many, or a fault
-//! unread(world, b"none.sv", InputFault::World)         // vsim: cannot read none.sv    WorldFault
+//! read_files(alloc, world, names)     // Ok(bytes of each), or Err(Stop { at: 1, fault: World }): the second was not read
 //! ```
 #![tactic(auto)]
 
-mod file;
+mod files;
 
-pub use file::{InputFault, input, unread};
+pub use files::{Stop, read_files};

@@ -1,13 +1,14 @@
--- What a command is answered, and what each status says of the streams.
-use Rattle.std.specs.Prelude.{◌≡◌, ◌⊎◌, ℕ, List, [], ◌∷◌, ◌++◌, Option, codes, Contains}
+-- What a command is answered, and what each status says of what was done to the world.
+use Rattle.std.specs.Prelude.{◌≡◌, ◌⊎◌, ◌≤◌, ℕ, true, List, [], ◌∷◌, ◌++◌, Option, Some, None, codes, Contains}
 use Rattle.std.specs.Option.{option_map}
-use Rattle.vs_world.specs.declared.world.Stream.{Stream}
+use Rattle.std.specs.List.{list_all}
 use Rattle.vs_world.specs.declared.world.Stream.TheVariants.{Errors}
-use Rattle.vs_world.specs.Outside.{Written, Made, appended, Rose}
+use Rattle.vs_world.specs.Outside.{Told, Rose}
+use Rattle.vs_world.specs.Entries.{Entry, Writes, is_quiet, written_by, made_by, Did, IsPart, front}
 use Rattle.run_status.specs.declared.status.Status.{Status}
 use Rattle.run_status.specs.declared.status.Status.TheVariants as status
-use Rattle.run_status.specs.Written.{IsPrefix, Said}
-use Rattle.run_status.specs.Lines.{not_created, not_written}
+use Rattle.run_status.specs.Written.{IsPrefix}
+use Rattle.run_status.specs.Lines.{Text, not_read, entry_text, out_of_memory}
 
 abbrev pub exit_code : Status → ℕ
 exit_code status.Done = 0
@@ -17,134 +18,135 @@ exit_code status.NoMemory = 3
 
 -- ---- the answer
 
--- the texts of standard output, the call log and the waveform, and the files that are created, in their order
-pub record Output : Type 0 where
-  pub out : List ℕ
-  pub calls : List ℕ
-  pub vcd : List ℕ
-  pub files : Made
-
--- some files and no text
-abbrev pub only_files : Made → Output
-only_files files = record { out = []; calls = []; vcd = []; files = files }
-
-abbrev pub nothing : Output
-nothing = only_files []
-
--- a command is refused by a line, or a named file is not there, or it writes texts
+-- a command is refused by a line; or a named file is not there; or entries are done; or entries are done and then it stops by a line
 pub data Answer : Type 0 where
-  Refused : List ℕ → Answer
-  Unread : List ℕ → Answer
-  Texts : Output → Answer
+  Refused : Text → Answer
+  Unread : Text → Answer
+  Texts : List Entry → Answer
+  Stopped : List Entry → Text → Answer
 
--- the texts of an answer; a refused command has none
-abbrev pub output_of : Answer → Output
-output_of (Refused line) = nothing
-output_of (Unread name) = nothing
-output_of (Texts output) = output
+-- what is done to the world, in order, besides standard error
+abbrev pub entries_of : Answer → List Entry
+entries_of (Refused line) = []
+entries_of (Unread name) = []
+entries_of (Texts entries) = entries
+entries_of (Stopped entries line) = entries
 
--- ---- the lines on standard error
+-- the line by which it is refused
+abbrev pub refusal_of : Answer → Option Text
+refusal_of (Refused line) = Some line
+refusal_of (Unread name) = None
+refusal_of (Texts entries) = None
+refusal_of (Stopped entries line) = Some line
 
-abbrev pub error_line : List ℕ → List ℕ
+-- no entry is on standard error
+abbrev pub AreQuiet : List Entry → Type 0
+AreQuiet entries = list_all is_quiet entries ≡ true
+
+-- ---- the line on standard error
+
+abbrev pub error_line : Text → List ℕ
 error_line text = codes "vsim: " ++ text ++ codes "\n"
 
--- a text about a place in a file, whose line and column are spelled
-abbrev pub placed_text : List ℕ → List ℕ → List ℕ → List ℕ → List ℕ
-placed_text file line col text = file ++ codes ":" ++ line ++ codes ":" ++ col ++ codes ": " ++ text
+-- bytes on standard error, as an entry
+abbrev pub on_errors : List ℕ → List Entry
+on_errors bytes = Writes Errors bytes ∷ []
 
--- the line was written whole, or a front of it where faults rose
-abbrev pub Tells : List ℕ → Option Written → Option Written → ℕ → ℕ → Type 0
-Tells text told told' faults faults' = (told' ≡ option_map (appended Errors (error_line text)) told) ⊎ (Said Errors (error_line text) told told' × Rose faults faults')
+-- a front of the line was written and nothing else was done, since faults rose
+pub record CutShort (text : Text) (before now : Told) : Type 0 where
+  pub part : List ℕ
+  pub front : IsPrefix part (error_line text)
+  pub did : Did (on_errors part) before now
+  pub rose : Rose before.faults now.faults
+
+-- the line was written whole, or a front of it where faults rose; nothing else was done
+abbrev pub Tells : Text → Told → Told → Type 0
+Tells text before now = Did (on_errors (error_line text)) before now ⊎ CutShort text before now
 
 -- a refusal whose line is whole, or a world fault
-abbrev pub Refuses : Status → List ℕ → Option Written → Option Written → ℕ → ℕ → Type 0
-Refuses s text told told' faults faults' =
-    ((s ≡ status.Refused) × (told' ≡ option_map (appended Errors (error_line text)) told)) ⊎ ((s ≡ status.WorldFault) × Said Errors (error_line text) told told' × Rose faults faults')
+abbrev pub Refuses : Status → Text → Told → Told → Type 0
+Refuses s text before now = ((s ≡ status.Refused) × Did (on_errors (error_line text)) before now) ⊎ ((s ≡ status.WorldFault) × CutShort text before now)
+
+-- why a command ends before all is done: it is refused by a line, the world failed and a line tells at what, or memory ran out
+pub data Ending : Type 0 where
+  Refusing : Text → Ending
+  Failing : Text → Ending
+  Wanting : Ending
+
+-- the status and the line
+abbrev pub EndsBy : Status → Ending → Told → Told → Type 0
+EndsBy s (Refusing line) before now = Refuses s line before now
+EndsBy s (Failing line) before now = (s ≡ status.WorldFault) × Tells line before now
+EndsBy s Wanting before now = (s ≡ status.NoMemory) × Tells out_of_memory before now
 
 -- ---- what each status says
 
--- these bytes were appended to the streams, where the world tells it
-abbrev pub with_appended : Output → List ℕ → Written → Written
-with_appended o errors w = record { out = w.out ++ o.out; errors = w.errors ++ errors; calls = w.calls ++ o.calls; vcd = w.vcd ++ o.vcd }
+-- exactly these entries were done, in order, and files may have been read
+pub record Leaves (entries : List Entry) (before now : Told) : Type 0 where
+  pub written : now.written ≡ option_map (written_by entries) before.written
+  pub made : now.made ≡ option_map (made_by entries) before.made
+  pub files : now.files ≡ before.files
+  pub faults : before.faults ≤ now.faults
+  pub absent : before.absent ≤ now.absent
 
--- and these files were created
-abbrev pub with_made : Output → Made → Made
-with_made o made = made ++ o.files
+-- all entries were done, and nothing stands on standard error
+pub record EndsDone (a : Answer) (before now : Told) : Type 0 where
+  pub entries : List Entry
+  pub answer : a ≡ Texts entries
+  pub left : Leaves entries before now
 
-pub record Appends (told told' : Option Written) (made made' : Option Made) (o : Output) (errors : List ℕ) : Type 0 where
-  pub same : told' ≡ option_map (with_appended o errors) told
-  pub created : made' ≡ option_map (with_made o) made
-
-abbrev pub IsFirst : Made → Made → Type 0
-IsFirst front whole = (rest : Made) × (front ++ rest ≡ whole)
-
--- each text is a front of the other's, and the files are the first of the other's
-pub record AreFronts (part whole : Output) : Type 0 where
-  pub out : IsPrefix part.out whole.out
-  pub calls : IsPrefix part.calls whole.calls
-  pub vcd : IsPrefix part.vcd whole.vcd
-  pub files : IsFirst part.files whole.files
+-- the entries before the refusal were done, none but where a run stops, and then its line is whole
+pub record EndsRefused (a : Answer) (before now : Told) : Type 0 where
+  pub line : Text
+  pub answer : refusal_of a ≡ Some line
+  pub left : Leaves (entries_of a ++ on_errors (error_line line)) before now
 
 -- why there may be a world fault: faults rose, or a file that is not there was read
-abbrev pub FaultCause : Answer → ℕ → ℕ → ℕ → ℕ → Type 0
-FaultCause a faults faults' absent absent' = Rose faults faults' ⊎ ((name : List ℕ) × (a ≡ Unread name) × Rose absent absent')
+abbrev pub FaultCause : Answer → Told → Told → Type 0
+FaultCause a before now = Rose before.faults now.faults ⊎ ((name : Text) × (a ≡ Unread name) × Rose before.absent now.absent)
 
--- The line that a world fault tells: that of a refusal; that of a file of the words, where nothing else was written and nothing created; that of the
--- first file that was not created, where nothing was written; or that of a stream, where all files were created.
-pub data FaultLine (named : List (List ℕ)) (a : Answer) (part : Output) (text : List ℕ) : Type 0 where
-  OfRefusal : a ≡ Refused text → FaultLine named a part text
-  OfRead : (name : List ℕ) → Contains named name → part ≡ nothing → text ≡ codes "cannot read " ++ name → FaultLine named a part text
-  OfCreate : (done : Made) (stream : Stream) (name : List ℕ) (more : Made) → part ≡ only_files done → done ++ (stream, name) ∷ more ≡ (output_of a).files → text ≡ not_created name → FaultLine named a part text
-  OfWrite : (stream : Stream) → part.files ≡ (output_of a).files → text ≡ not_written stream → FaultLine named a part text
+-- How far the entries came before a world fault, and the line that tells it: that of the refusal, with all of its entries done; that of a
+-- file of the words, with nothing done; or that of the entry at which the world failed, with the entries before it done whole and of
+-- this one a front.
+pub data FaultLine (named : List Text) (a : Answer) (part : List Entry) (text : Text) : Type 0 where
+  OfRefusal : refusal_of a ≡ Some text → part ≡ entries_of a → FaultLine named a part text
+  OfRead : (name : Text) → Contains named name → text ≡ not_read name → part ≡ [] → FaultLine named a part text
+  OfEntry : (done : List Entry) (entry : Entry) (rest : List Entry) (bytes : ℕ) → done ++ entry ∷ rest ≡ entries_of a → IsPart bytes entry → text ≡ entry_text entry → part ≡ done ++ front bytes entry → FaultLine named a part text
 
 -- a file that is not there is told whole, where faults did not rise
-abbrev pub TellsUnread : Answer → List ℕ → ℕ → ℕ → Type 0
-TellsUnread a errors faults faults' = (name : List ℕ) → a ≡ Unread name → (errors ≡ error_line (codes "cannot read " ++ name)) ⊎ Rose faults faults'
+abbrev pub TellsUnread : Answer → List ℕ → Told → Told → Type 0
+TellsUnread a errors before now = (name : Text) → a ≡ Unread name → (errors ≡ error_line (not_read name)) ⊎ Rose before.faults now.faults
 
--- all texts are whole, all files were created, and nothing stands on standard error
-pub record EndsDone (a : Answer) (told told' : Option Written) (made made' : Option Made) : Type 0 where
-  pub output : Output
-  pub answer : a ≡ Texts output
-  pub written : Appends told told' made made' output []
-
--- the line of the refusal is whole, nothing else was written, and no file was created
-pub record EndsRefused (a : Answer) (told told' : Option Written) (made made' : Option Made) : Type 0 where
-  pub line : List ℕ
-  pub answer : a ≡ Refused line
-  pub written : Appends told told' made made' nothing (error_line line)
-
--- faults rose or a file is not there; each text and the line on standard error is a front of what it would be, and the files are the first of those
-pub record EndsFaulty (named : List (List ℕ)) (a : Answer) (told told' : Option Written) (made made' : Option Made) (faults faults' absent absent' : ℕ) : Type 0 where
-  pub cause : FaultCause a faults faults' absent absent'
-  pub part : Output
-  pub front : AreFronts part (output_of a)
-  pub text : List ℕ
+-- the entries came so far, and then came a front of the line
+pub record EndsFaulty (named : List Text) (a : Answer) (before now : Told) : Type 0 where
+  pub cause : FaultCause a before now
+  pub part : List Entry
+  pub text : Text
   pub line : FaultLine named a part text
   pub errors : List ℕ
   pub said : IsPrefix errors (error_line text)
-  pub unread : TellsUnread a errors faults faults'
-  pub written : Appends told told' made made' part errors
+  pub unread : TellsUnread a errors before now
+  pub left : Leaves (part ++ on_errors errors) before now
 
 -- the line is whole, or a front of it where faults rose
-abbrev pub SaysWanting : List ℕ → ℕ → ℕ → Type 0
-SaysWanting errors faults faults' = (errors ≡ error_line (codes "out of memory")) ⊎ (IsPrefix errors (error_line (codes "out of memory")) × Rose faults faults')
+abbrev pub SaysWanting : List ℕ → Told → Told → Type 0
+SaysWanting errors before now = (errors ≡ error_line out_of_memory) ⊎ (IsPrefix errors (error_line out_of_memory) × Rose before.faults now.faults)
 
--- each text is a front of what it would be, and the files are the first of those
-pub record EndsWanting (a : Answer) (told told' : Option Written) (made made' : Option Made) (faults faults' : ℕ) : Type 0 where
-  pub part : Output
-  pub front : AreFronts part (output_of a)
+-- nothing was done but for the line
+pub record EndsWanting (before now : Told) : Type 0 where
   pub errors : List ℕ
-  pub said : SaysWanting errors faults faults'
-  pub written : Appends told told' made made' part errors
+  pub said : SaysWanting errors before now
+  pub left : Leaves (on_errors errors) before now
 
-abbrev pub Ends : Status → List (List ℕ) → Answer → Option Written → Option Written → Option Made → Option Made → ℕ → ℕ → ℕ → ℕ → Type 0
-Ends status.Done named a told told' made made' faults faults' absent absent' = EndsDone a told told' made made'
-Ends status.Refused named a told told' made made' faults faults' absent absent' = EndsRefused a told told' made made'
-Ends status.WorldFault named a told told' made made' faults faults' absent absent' = EndsFaulty named a told told' made made' faults faults' absent absent'
-Ends status.NoMemory named a told told' made made' faults faults' absent absent' = EndsWanting a told told' made made' faults faults'
+abbrev pub Ends : Status → List Text → Answer → Told → Told → Type 0
+Ends status.Done named a before now = EndsDone a before now
+Ends status.Refused named a before now = EndsRefused a before now
+Ends status.WorldFault named a before now = EndsFaulty named a before now
+Ends status.NoMemory named a before now = EndsWanting before now
 
 -- some answer that is allowed, with what the status says of it
-pub record Table (Allowed : Answer → Type 0) (s : Status) (named : List (List ℕ)) (told told' : Option Written) (made made' : Option Made) (faults faults' absent absent' : ℕ) : Type 0 where
+pub record Table (Allowed : Answer → Type 0) (s : Status) (named : List Text) (before now : Told) : Type 0 where
   pub answer : Answer
   pub allowed : Allowed answer
-  pub ends : Ends s named answer told told' made made' faults faults' absent absent'
+  pub quiet : AreQuiet (entries_of answer)
+  pub ends : Ends s named answer before now

@@ -1,6 +1,7 @@
 pub mod Written
 pub mod WrittenLaws
-pub mod Answer
-pub mod AnswerLaws
 pub mod Lines
 pub mod LineLaws
+pub mod Answer
+pub mod Stages
+pub mod StageLaws

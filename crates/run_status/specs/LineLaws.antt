@@ -1,28 +1,46 @@
--- Texts that were begun, when they are parts of a longer one.
-use Rattle.std.proofs.Common.{◌≡◌, ℕ, ◌+◌, ◌<◌, List, [], ◌∷◌, ◌++◌, length, take, drop, get_or, Option, sym, ap, ◌∙◌, subst, append_assoc}
+-- A line that is written in pieces: whole, or begun.
+use Rattle.std.proofs.Common.{◌≡◌, ℕ, ◌+◌, ◌<◌, List, [], ◌∷◌, ◌++◌, length, take, drop, get_or, sym, ap, ◌∙◌, subst, append_assoc}
 use Rattle.std.specs.List.{flat_map}
 use Rattle.std.proofs.lemmas.List.{append-nil, take-append-drop, take_more}
 use Rattle.std.proofs.lemmas.Grind.{flat_map-append}
 use Rattle.std.specs.Option.{option_map}
 use Rattle.vs_world.specs.declared.world.Stream.{Stream}
-use Rattle.vs_world.specs.Outside.{Written, appended}
+use Rattle.vs_world.specs.declared.world.Stream.TheVariants.{Errors}
+use Rattle.vs_world.specs.Outside.{Told, appended, Rose, OnlyWrites}
 use Rattle.vs_world.specs.StreamLaws.{then_piece}
+use Rattle.vs_world.specs.Entries.{Did}
+use Rattle.vs_world.specs.EntryLaws.{did_write}
 use Rattle.run_status.specs.Written.{Said}
+use Rattle.run_status.specs.Lines.{Text}
+use Rattle.run_status.specs.Answer.{error_line, on_errors, CutShort}
+
+-- ---- the bytes of a line
+
+module _ (bytes : List ℕ) (text : Text) (is : bytes ≡ error_line text) (a b : Told) (only : OnlyWrites a b) where
+  -- they were all written
+  pub line_whole : b.written ≡ option_map (appended Errors bytes) a.written → Did (on_errors (error_line text)) a b
+  line_whole same = subst (λ (l : List ℕ). Did (on_errors l) a b) is (did_write Errors bytes a b same only)
+
+  -- a front of them was written
+  pub line_cut : Said Errors bytes a b → Rose a.faults b.faults → CutShort text a b
+  line_cut said rose = record { part = said.part; front = (said.front.0, said.front.1 ∙ is); did = did_write Errors said.part a b said.same only; rose = rose }
+
+-- ---- texts that were begun, when they are parts of a longer one
 
 -- the first part was begun
-pub said_first : (s : Stream) (a b : List ℕ) (told told' : Option Written) → Said s a told told' → Said s (a ++ b) told told'
-said_first s a b told told' x = record {
-  part = x.part;
-  front = (x.front.0 ++ b, sym (append_assoc x.part x.front.0 b) ∙ ap (λ (l : List ℕ). l ++ b) x.front.1);
-  same = x.same;
+pub said_first : (s : Stream) (x y : List ℕ) (a b : Told) → Said s x a b → Said s (x ++ y) a b
+said_first s x y a b said = record {
+  part = said.part;
+  front = (said.front.0 ++ y, sym (append_assoc said.part said.front.0 y) ∙ ap (λ (l : List ℕ). l ++ y) said.front.1);
+  same = said.same;
 }
 
 -- the first part is whole, and the second was begun
-pub said_second : (s : Stream) (a b : List ℕ) (told told1 told2 : Option Written) → told1 ≡ option_map (appended s a) told → Said s b told1 told2 → Said s (a ++ b) told told2
-said_second s a b told told1 told2 first x = record {
-  part = a ++ x.part;
-  front = (x.front.0, append_assoc a x.part x.front.0 ∙ ap (λ (l : List ℕ). a ++ l) x.front.1);
-  same = then_piece s a x.part told told1 told2 first x.same;
+pub said_second : (s : Stream) (x y : List ℕ) (a b c : Told) → b.written ≡ option_map (appended s x) a.written → Said s y b c → Said s (x ++ y) a c
+said_second s x y a b c first said = record {
+  part = x ++ said.part;
+  front = (said.front.0, append_assoc x said.part said.front.0 ∙ ap (λ (l : List ℕ). x ++ l) said.front.1);
+  same = then_piece s x said.part a.written b.written c.written first said.same;
 }
 
 -- ---- the texts of things, one after another
@@ -35,7 +53,7 @@ module _ {X : Type 0} (text : X → List ℕ) (xs : List X) (i : ℕ) (d : X) (w
   texts_whole = ap (λ (l : List ℕ). l ++ flat_map text (drop (i + 1) xs)) (sym texts_more) ∙ sym (flat_map-append text (take (i + 1) xs) (drop (i + 1) xs)) ∙ ap (flat_map text) (take-append-drop (i + 1) xs)
 
   -- those before a place are whole, and that of the place was begun
-  pub texts_cut : (s : Stream) (told told1 told2 : Option Written) → told1 ≡ option_map (appended s (flat_map text (take i xs))) told → Said s (text (get_or xs i d)) told1 told2 → Said s (flat_map text xs) told told2
-  texts_cut s told told1 told2 first x =
-      let more = said_second s (flat_map text (take i xs)) (text (get_or xs i d)) told told1 told2 first x in
-      subst (λ (l : List ℕ). Said s l told told2) texts_whole (said_first s _ (flat_map text (drop (i + 1) xs)) told told2 more)
+  pub texts_cut : (s : Stream) (a b c : Told) → b.written ≡ option_map (appended s (flat_map text (take i xs))) a.written → Said s (text (get_or xs i d)) b c → Said s (flat_map text xs) a c
+  texts_cut s a b c first said =
+      let more = said_second s (flat_map text (take i xs)) (text (get_or xs i d)) a b c first said in
+      subst (λ (l : List ℕ). Said s l a c) texts_whole (said_first s _ (flat_map text (drop (i + 1) xs)) a c more)

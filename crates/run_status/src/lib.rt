@@ -3,11 +3,13 @@
 //! A command has one of four statuses ([`Status`]). Where it does not end well it tries one line on standard error,
 //! `vsim: ` and a text, by the calls of this crate; they write in pieces and take no memory.
 //!
-//! `specs/Answer.antt` holds the table of statuses. An answer is a refusal by a line, a named file that is not there,
-//! or the texts of a run; `Table` says that some allowed answer is what the status tells of the streams: `Done` and
-//! all texts whole, `Refused` and its line whole, and so on. Which answers are allowed for which words and files is
-//! no matter of this crate. The laws beside it lead from what a stage of a command wrote to the table, and from an
-//! earlier stage to a later one.
+//! `specs/Answer.antt` holds the table of statuses. An answer is a refusal by a line; a named file that is not there; the
+//! entries of a run (`vs_world`); or entries and then a line, where a run stops. `Table` says that some allowed answer is
+//! what the status tells of the world: at `Done` all entries were done; at `Refused` those before the refusal, none but where
+//! a run stops, and then its line; at `WorldFault` those before the entry at which the world failed, of this one so many
+//! bytes, and then the line that tells it, or a front of it; at `NoMemory` nothing but the line. Nothing else was written or
+//! created. Which answers are allowed for which words and files is no matter of this crate. `specs/Stages.antt` says how far
+//! a command came before its line, and the laws beside it lead from there to the table.
 //!
 //! ```text
 //! refuse(world, b"d.sv", b": longer than 4194304 bytes")    // vsim: d.sv: longer than 4194304 bytes    Refused, or WorldFault

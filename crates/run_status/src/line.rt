@@ -1,11 +1,12 @@
 // The one line on standard error.
 ghost use Rattle.std.specs.Prelude.{◌≡◌, ◌≤◌, ◌++◌, [], get_or, codes, decimal, OnOk, OnErr};
 ghost use Rattle.std.specs.Option.{option_map};
-ghost use Rattle.vs_world.specs.Outside.{appended, IsOpen, Rose};
+ghost use Rattle.vs_world.specs.Outside.{appended, IsOpen, Rose, OnlyWrites};
+ghost use Rattle.vs_world.specs.Entries.{Did};
 ghost use Rattle.vs_world.specs.declared.world.Stream.TheVariants.{Errors as ErrorStream};
-ghost use Rattle.run_status.specs.Written.{Said, OnlyWrites, joined};
-ghost use Rattle.run_status.specs.Answer.{error_line, placed_text, Tells, Refuses};
-ghost use Rattle.run_status.specs.Lines.{stream_name, not_created, not_written, listed_place, listed_places, listed_text};
+ghost use Rattle.run_status.specs.Written.{Said, joined};
+ghost use Rattle.run_status.specs.Answer.{error_line, on_errors, CutShort, Refuses, Failing, Wanting, EndsBy};
+ghost use Rattle.run_status.specs.Lines.{stream_name, not_read, not_created, not_written, placed_text, listed_place, listed_places, listed_text};
 
 use crate::status::Status;
 use itoa::Buffer;
@@ -22,11 +23,11 @@ const BLANK: &[u8] = b" ";
 
 // Writes pieces one after another.
 fn write_pieces<W: World>(world: &mut W, stream: Stream, pieces: &[&[u8]]) -> Result<(), ()>
-    requires { IsOpen (W.made world.old) stream }
-    ensures ok { OnOk result (W.written world.new ≡ option_map (appended stream (joined pieces.now)) (W.written world.old)) }
-    ensures err { OnErr result (Said stream (joined pieces.now) (W.written world.old) (W.written world.new)) }
-    ensures cause { OnErr result (Rose (W.faults world.old) (W.faults world.new)) }
-    ensures rest { OnlyWrites (W.faults world.old) (W.faults world.new) (W.absent world.old) (W.absent world.new) (W.files world.old) (W.files world.new) (W.made world.old) (W.made world.new) }
+    requires { IsOpen (W.told world.old).made stream }
+    ensures ok { OnOk result ((W.told world.new).written ≡ option_map (appended stream (joined pieces.now)) (W.told world.old).written) }
+    ensures err { OnErr result (Said stream (joined pieces.now) (W.told world.old) (W.told world.new)) }
+    ensures cause { OnErr result (Rose (W.told world.old).faults (W.told world.new).faults) }
+    ensures rest { OnlyWrites (W.told world.old) (W.told world.new) }
 {
     for piece in pieces {
         match write_all(world, stream, piece) {
@@ -39,10 +40,8 @@ fn write_pieces<W: World>(world: &mut W, stream: Stream, pieces: &[&[u8]]) -> Re
 
 // Writes one line on standard error, or as much of it as the world takes; says whether it is whole.
 fn tell<W: World>(world: &mut W, start: &[u8], end: &[u8]) -> Result<(), ()>
-    ensures ok { OnOk result (W.written world.new ≡ option_map (appended ErrorStream (error_line (start.now ++ end.now))) (W.written world.old)) }
-    ensures err { OnErr result (Said ErrorStream (error_line (start.now ++ end.now)) (W.written world.old) (W.written world.new)) }
-    ensures cause { OnErr result (Rose (W.faults world.old) (W.faults world.new)) }
-    ensures rest { OnlyWrites (W.faults world.old) (W.faults world.new) (W.absent world.old) (W.absent world.new) (W.files world.old) (W.files world.new) (W.made world.old) (W.made world.new) }
+    ensures ok { OnOk result (Did (on_errors (error_line (start.now ++ end.now))) (W.told world.old) (W.told world.new)) }
+    ensures err { OnErr result (CutShort (start.now ++ end.now) (W.told world.old) (W.told world.new)) }
 {
     match write_pieces(world, Stream::Errors, &[START, start, end, END]) {
         Ok(()) => Ok(()),
@@ -54,8 +53,7 @@ fn tell<W: World>(world: &mut W, start: &[u8], end: &[u8]) -> Result<(), ()>
 ///
 /// Gives `Refused` where the line is whole, and `WorldFault` where the write failed.
 pub fn refuse<W: World>(world: &mut W, start: &[u8], end: &[u8]) -> Status
-    ensures told { Refuses result (start.now ++ end.now) (W.written world.old) (W.written world.new) (W.faults world.old) (W.faults world.new) }
-    ensures rest { OnlyWrites (W.faults world.old) (W.faults world.new) (W.absent world.old) (W.absent world.new) (W.files world.old) (W.files world.new) (W.made world.old) (W.made world.new) }
+    ensures told { Refuses result (start.now ++ end.now) (W.told world.old) (W.told world.new) }
 {
     match tell(world, start, end) {
         Ok(()) => Status::Refused,
@@ -65,10 +63,8 @@ pub fn refuse<W: World>(world: &mut W, start: &[u8], end: &[u8]) -> Status
 
 // Writes one line with a name in it on standard error, or as much of it as the world takes; says whether it is whole.
 fn tell_about<W: World>(world: &mut W, start: &[u8], name: &[u8], end: &[u8]) -> Result<(), ()>
-    ensures ok { OnOk result (W.written world.new ≡ option_map (appended ErrorStream (error_line (start.now ++ name.now ++ end.now))) (W.written world.old)) }
-    ensures err { OnErr result (Said ErrorStream (error_line (start.now ++ name.now ++ end.now)) (W.written world.old) (W.written world.new)) }
-    ensures cause { OnErr result (Rose (W.faults world.old) (W.faults world.new)) }
-    ensures rest { OnlyWrites (W.faults world.old) (W.faults world.new) (W.absent world.old) (W.absent world.new) (W.files world.old) (W.files world.new) (W.made world.old) (W.made world.new) }
+    ensures ok { OnOk result (Did (on_errors (error_line (start.now ++ name.now ++ end.now))) (W.told world.old) (W.told world.new)) }
+    ensures err { OnErr result (CutShort (start.now ++ name.now ++ end.now) (W.told world.old) (W.told world.new)) }
 {
     match write_pieces(world, Stream::Errors, &[START, start, name, end, END]) {
         Ok(()) => Ok(()),
@@ -80,8 +76,7 @@ fn tell_about<W: World>(world: &mut W, start: &[u8], name: &[u8], end: &[u8]) ->
 ///
 /// Gives `Refused` where the line is whole, and `WorldFault` where the write failed.
 pub fn refuse_about<W: World>(world: &mut W, start: &[u8], name: &[u8], end: &[u8]) -> Status
-    ensures told { Refuses result (start.now ++ name.now ++ end.now) (W.written world.old) (W.written world.new) (W.faults world.old) (W.faults world.new) }
-    ensures rest { OnlyWrites (W.faults world.old) (W.faults world.new) (W.absent world.old) (W.absent world.new) (W.files world.old) (W.files world.new) (W.made world.old) (W.made world.new) }
+    ensures told { Refuses result (start.now ++ name.now ++ end.now) (W.told world.old) (W.told world.new) }
 {
     match tell_about(world, start, name, end) {
         Ok(()) => Status::Refused,
@@ -98,10 +93,8 @@ fn tell_at<W: World>(
     start: &[u8],
     end: &[u8],
 ) -> Result<(), ()>
-    ensures ok { OnOk result (W.written world.new ≡ option_map (appended ErrorStream (error_line (placed_text file.now line.now col.now (start.now ++ end.now)))) (W.written world.old)) }
-    ensures err { OnErr result (Said ErrorStream (error_line (placed_text file.now line.now col.now (start.now ++ end.now))) (W.written world.old) (W.written world.new)) }
-    ensures cause { OnErr result (Rose (W.faults world.old) (W.faults world.new)) }
-    ensures rest { OnlyWrites (W.faults world.old) (W.faults world.new) (W.absent world.old) (W.absent world.new) (W.files world.old) (W.files world.new) (W.made world.old) (W.made world.new) }
+    ensures ok { OnOk result (Did (on_errors (error_line (placed_text file.now line.now col.now (start.now ++ end.now)))) (W.told world.old) (W.told world.new)) }
+    ensures err { OnErr result (CutShort (placed_text file.now line.now col.now (start.now ++ end.now)) (W.told world.old) (W.told world.new)) }
 {
     let pieces = [
         START, file, COLON, line, COLON, col, COLON, BLANK, start, end, END,
@@ -123,8 +116,7 @@ pub fn refuse_at<W: World>(
     start: &[u8],
     end: &[u8],
 ) -> Status
-    ensures told { Refuses result (placed_text file.now (decimal at.line) (decimal at.col) (start.now ++ end.now)) (W.written world.old) (W.written world.new) (W.faults world.old) (W.faults world.new) }
-    ensures rest { OnlyWrites (W.faults world.old) (W.faults world.new) (W.absent world.old) (W.absent world.new) (W.files world.old) (W.files world.new) (W.made world.old) (W.made world.new) }
+    ensures told { Refuses result (placed_text file.now (decimal at.line) (decimal at.col) (start.now ++ end.now)) (W.told world.old) (W.told world.new) }
 {
     let mut line = Buffer::new();
     let mut col = Buffer::new();
@@ -148,10 +140,10 @@ pub fn file_name(files: &[Text], number: usize) -> &[u8]
 
 // Writes a place with a blank before it.
 fn write_place<W: World>(world: &mut W, file: &[u8], at: Origin) -> Result<(), ()>
-    ensures ok { OnOk result (W.written world.new ≡ option_map (appended ErrorStream (listed_place file.now at)) (W.written world.old)) }
-    ensures err { OnErr result (Said ErrorStream (listed_place file.now at) (W.written world.old) (W.written world.new)) }
-    ensures cause { OnErr result (Rose (W.faults world.old) (W.faults world.new)) }
-    ensures rest { OnlyWrites (W.faults world.old) (W.faults world.new) (W.absent world.old) (W.absent world.new) (W.files world.old) (W.files world.new) (W.made world.old) (W.made world.new) }
+    ensures ok { OnOk result ((W.told world.new).written ≡ option_map (appended ErrorStream (listed_place file.now at)) (W.told world.old).written) }
+    ensures err { OnErr result (Said ErrorStream (listed_place file.now at) (W.told world.old) (W.told world.new)) }
+    ensures cause { OnErr result (Rose (W.told world.old).faults (W.told world.new).faults) }
+    ensures rest { OnlyWrites (W.told world.old) (W.told world.new) }
 {
     let mut line = Buffer::new();
     let mut col = Buffer::new();
@@ -166,10 +158,10 @@ fn write_place<W: World>(world: &mut W, file: &[u8], at: Origin) -> Result<(), (
 
 // Writes places, a blank before each.
 fn write_places<W: World>(world: &mut W, files: &[Text], places: &[Origin]) -> Result<(), ()>
-    ensures ok { OnOk result (W.written world.new ≡ option_map (appended ErrorStream (listed_places files.now places.now)) (W.written world.old)) }
-    ensures err { OnErr result (Said ErrorStream (listed_places files.now places.now) (W.written world.old) (W.written world.new)) }
-    ensures cause { OnErr result (Rose (W.faults world.old) (W.faults world.new)) }
-    ensures rest { OnlyWrites (W.faults world.old) (W.faults world.new) (W.absent world.old) (W.absent world.new) (W.files world.old) (W.files world.new) (W.made world.old) (W.made world.new) }
+    ensures ok { OnOk result ((W.told world.new).written ≡ option_map (appended ErrorStream (listed_places files.now places.now)) (W.told world.old).written) }
+    ensures err { OnErr result (Said ErrorStream (listed_places files.now places.now) (W.told world.old) (W.told world.new)) }
+    ensures cause { OnErr result (Rose (W.told world.old).faults (W.told world.new).faults) }
+    ensures rest { OnlyWrites (W.told world.old) (W.told world.new) }
 {
     for place in places {
         match write_place(world, file_name(files, place.file as usize), *place) {
@@ -182,10 +174,10 @@ fn write_places<W: World>(world: &mut W, files: &[Text], places: &[Origin]) -> R
 
 // Writes places and the end of the line.
 fn end_listed<W: World>(world: &mut W, files: &[Text], places: &[Origin]) -> Result<(), ()>
-    ensures ok { OnOk result (W.written world.new ≡ option_map (appended ErrorStream (listed_places files.now places.now ++ codes "\n")) (W.written world.old)) }
-    ensures err { OnErr result (Said ErrorStream (listed_places files.now places.now ++ codes "\n") (W.written world.old) (W.written world.new)) }
-    ensures cause { OnErr result (Rose (W.faults world.old) (W.faults world.new)) }
-    ensures rest { OnlyWrites (W.faults world.old) (W.faults world.new) (W.absent world.old) (W.absent world.new) (W.files world.old) (W.files world.new) (W.made world.old) (W.made world.new) }
+    ensures ok { OnOk result ((W.told world.new).written ≡ option_map (appended ErrorStream (listed_places files.now places.now ++ codes "\n")) (W.told world.old).written) }
+    ensures err { OnErr result (Said ErrorStream (listed_places files.now places.now ++ codes "\n") (W.told world.old) (W.told world.new)) }
+    ensures cause { OnErr result (Rose (W.told world.old).faults (W.told world.new).faults) }
+    ensures rest { OnlyWrites (W.told world.old) (W.told world.new) }
 {
     match write_places(world, files, places) {
         Ok(()) => {}
@@ -205,10 +197,8 @@ fn tell_listed<W: World>(
     end: &[u8],
     places: &[Origin],
 ) -> Result<(), ()>
-    ensures ok { OnOk result (W.written world.new ≡ option_map (appended ErrorStream (error_line (listed_text files.now (start.now ++ end.now) places.now))) (W.written world.old)) }
-    ensures err { OnErr result (Said ErrorStream (error_line (listed_text files.now (start.now ++ end.now) places.now)) (W.written world.old) (W.written world.new)) }
-    ensures cause { OnErr result (Rose (W.faults world.old) (W.faults world.new)) }
-    ensures rest { OnlyWrites (W.faults world.old) (W.faults world.new) (W.absent world.old) (W.absent world.new) (W.files world.old) (W.files world.new) (W.made world.old) (W.made world.new) }
+    ensures ok { OnOk result (Did (on_errors (error_line (listed_text files.now (start.now ++ end.now) places.now))) (W.told world.old) (W.told world.new)) }
+    ensures err { OnErr result (CutShort (listed_text files.now (start.now ++ end.now) places.now) (W.told world.old) (W.told world.new)) }
 {
     match write_pieces(world, Stream::Errors, &[START, start, end, COLON]) {
         Ok(()) => {}
@@ -231,8 +221,7 @@ pub fn refuse_listed<W: World>(
     end: &[u8],
     places: &[Origin],
 ) -> Status
-    ensures told { Refuses result (listed_text files.now (start.now ++ end.now) places.now) (W.written world.old) (W.written world.new) (W.faults world.old) (W.faults world.new) }
-    ensures rest { OnlyWrites (W.faults world.old) (W.faults world.new) (W.absent world.old) (W.absent world.new) (W.files world.old) (W.files world.new) (W.made world.old) (W.made world.new) }
+    ensures told { Refuses result (listed_text files.now (start.now ++ end.now) places.now) (W.told world.old) (W.told world.new) }
 {
     match tell_listed(world, files, start, end, places) {
         Ok(()) => Status::Refused,
@@ -242,9 +231,7 @@ pub fn refuse_listed<W: World>(
 
 /// Tries the line `cannot read NAME` after a failing read, and gives `WorldFault`.
 pub fn cannot_read<W: World>(world: &mut W, name: &[u8]) -> Status
-    ensures status { result ≡ Status.WorldFault }
-    ensures told { Tells (codes "cannot read " ++ name.now) (W.written world.old) (W.written world.new) (W.faults world.old) (W.faults world.new) }
-    ensures rest { OnlyWrites (W.faults world.old) (W.faults world.new) (W.absent world.old) (W.absent world.new) (W.files world.old) (W.files world.new) (W.made world.old) (W.made world.new) }
+    ensures told { EndsBy result (Failing (not_read name.now)) (W.told world.old) (W.told world.new) }
 {
     match tell(world, b"cannot read ", name) {
         Ok(()) => Status::WorldFault,
@@ -254,9 +241,7 @@ pub fn cannot_read<W: World>(world: &mut W, name: &[u8]) -> Status
 
 /// Tries the line `cannot create NAME` after a failing creation, and gives `WorldFault`.
 pub fn cannot_create<W: World>(world: &mut W, name: &[u8]) -> Status
-    ensures status { result ≡ Status.WorldFault }
-    ensures told { Tells (not_created name.now) (W.written world.old) (W.written world.new) (W.faults world.old) (W.faults world.new) }
-    ensures rest { OnlyWrites (W.faults world.old) (W.faults world.new) (W.absent world.old) (W.absent world.new) (W.files world.old) (W.files world.new) (W.made world.old) (W.made world.new) }
+    ensures told { EndsBy result (Failing (not_created name.now)) (W.told world.old) (W.told world.new) }
 {
     match tell(world, b"cannot create ", name) {
         Ok(()) => Status::WorldFault,
@@ -279,9 +264,7 @@ fn name_of(stream: Stream) -> &'static [u8]
 /// Tries the line `cannot write STREAM` after a failing write to that stream, and gives `WorldFault`. STREAM is `out`,
 /// `calls` or `vcd`.
 pub fn cannot_write<W: World>(world: &mut W, stream: Stream) -> Status
-    ensures status { result ≡ Status.WorldFault }
-    ensures told { Tells (not_written stream) (W.written world.old) (W.written world.new) (W.faults world.old) (W.faults world.new) }
-    ensures rest { OnlyWrites (W.faults world.old) (W.faults world.new) (W.absent world.old) (W.absent world.new) (W.files world.old) (W.files world.new) (W.made world.old) (W.made world.new) }
+    ensures told { EndsBy result (Failing (not_written stream)) (W.told world.old) (W.told world.new) }
 {
     match tell(world, b"cannot write ", name_of(stream)) {
         Ok(()) => Status::WorldFault,
@@ -291,9 +274,7 @@ pub fn cannot_write<W: World>(world: &mut W, stream: Stream) -> Status
 
 /// Tries the line `out of memory`, and gives `NoMemory` whether it was written or not.
 pub fn out_of_memory<W: World>(world: &mut W) -> Status
-    ensures status { result ≡ Status.NoMemory }
-    ensures told { Tells (codes "out of memory") (W.written world.old) (W.written world.new) (W.faults world.old) (W.faults world.new) }
-    ensures rest { OnlyWrites (W.faults world.old) (W.faults world.new) (W.absent world.old) (W.absent world.new) (W.files world.old) (W.files world.new) (W.made world.old) (W.made world.new) }
+    ensures told { EndsBy result Wanting (W.told world.old) (W.told world.new) }
 {
     match tell(world, b"out of memory", b"") {
         Ok(()) => Status::NoMemory,

@@ -1,5 +1,9 @@
 //! The program `vsim`: hands the words, the real world and the import library to the command, and ends with its
 //! status.
+//!
+//! A standard stream may be closed when the program starts, and the next file that is opened then gets the stream's number:
+//! what is written to the stream would stand in that file. So first a file is opened for reading three times, and kept open.
+//! A closed stream then has one of these, and a write to it fails.
 #![tactic(auto)]
 
 use dpi_lib::LibHost;
@@ -7,7 +11,7 @@ use run_status::{Status, out_of_memory};
 use std::io::ErrorKind;
 use std::process::ExitCode;
 use std::rt::Env;
-use std::{env, io};
+use std::{env, fs, io};
 use vs_world::RealWorld;
 use vsim_cli::vsim;
 
@@ -20,7 +24,15 @@ fn words<R: Env + AllocGlobal>(rt: &R) -> io::Result<Vec<String>> {
     Ok(words)
 }
 
+// A file that can be read and takes no byte when it is open for reading.
+const NOTHING: &str = "/dev/null";
+
 fn main(rt: HostRuntime) -> ExitCode {
+    let _kept = [
+        fs::open(&rt, NOTHING),
+        fs::open(&rt, NOTHING),
+        fs::open(&rt, NOTHING),
+    ];
     let Ok(files) = rt.clone() else {
         return ExitCode::from(Status::NoMemory.code());
     };

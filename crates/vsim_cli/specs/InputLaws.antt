@@ -1,103 +1,127 @@
--- How the files are read one after another.
-use Rattle.std.proofs.Common.{◌≡◌, ◌⊎◌, ℕ, List, [], ◌∷◌, ◌++◌, length, drop, get_or, Option, Some, None, refl, sym, ap, ◌∙◌, subst, inl, inr, append_assoc}
-use Rattle.std.specs.Prelude.{◌<◌, ◌+◌, IfSome, Vec}
-use Rattle.std.proofs.lemmas.List.{drop_more}
-use Rattle.std.specs.declared.alloc.Global.{Global}
-use Rattle.vs_world.specs.Outside.{Files, IsMissing}
-use Rattle.run_status.specs.Answer.{Answer, Refused, Unread}
-use Rattle.run_input.specs.Input.{contents, IsInput}
-use Rattle.vsim_cli.specs.Case.{Text, Bytes}
+-- How the files of the design and the stimulus are read, and what that says of the answer.
+use Rattle.std.proofs.Common.{◌≡◌, ◌⊎◌, List, [], ◌∷◌, ◌++◌, get_or, Option, Some, None, refl, sym, ap, ◌∙◌, subst, inl, inr, arith}
+use Rattle.std.specs.Prelude.{IfSome, Contains}
+use Rattle.std.proofs.lemmas.List.Elements.{Contains-get_or, Contains-append_left, Contains-append_right}
+use Rattle.vs_world.specs.Outside.{Files, Told, Rose, IsCreatable}
+use Rattle.vs_world.specs.EntryLaws.{did_none}
+use Rattle.vs_world.specs.declared.world.Stream.{Stream}
+use Rattle.vs_world.specs.declared.whole.ReadFault.{ReadFault}
+use Rattle.vs_world.specs.declared.whole.ReadFault.TheVariants as fault
+use Rattle.run_status.specs.Lines.{Text}
+use Rattle.run_status.specs.Answer.{Answer, Refused, Unread, Leaves}
+use Rattle.run_status.specs.Stages.{Came}
+use Rattle.run_status.specs.StageLaws.{leaves_none}
+use Rattle.run_input.specs.Input.{Bytes, NotRead, Missing, Long, file_read, all_read, WhyNot, Stops}
+use Rattle.run_input.specs.InputLaws.{why_later}
+use Rattle.run_input.specs.declared.files.Stop.{Stop}
 use Rattle.fault_text.specs.FaultText.{too_long}
-use Rattle.vsim_cli.specs.Inputs.{short_or, file_read, with_rest, all_read, before}
+use Rattle.vsim_cli.specs.Case.{Command, HostView, with_stim, names_of, name_or_none, source_name}
+use Rattle.vsim_cli.specs.declared.command.Source.{Source}
+use Rattle.vsim_cli.specs.declared.command.Source.TheVariants as source
+use Rattle.vsim_cli.specs.declared.refusal.Refusal.{Refusal}
+use Rattle.vsim_cli.specs.declared.refusal.Refusal.TheVariants as refusal
+use Rattle.vsim_cli.specs.Inputs.{Inputs, some_bytes, stim_read, both_read, inputs_read, unread_answer, IsNoStimulus, NotInputs}
+use Rattle.vsim_cli.specs.Refusals.{ending_of}
+use Rattle.vsim_cli.specs.Answers.{BytesAnswer, InputsAnswer, IsCommandAnswer}
 
-before_one : (done : List Bytes) (bytes : Bytes) (rest : Answer ⊎ List Bytes) → before done (with_rest (inr bytes) rest) ≡ before (done ++ bytes ∷ []) rest
-before_one done bytes (inl a) = refl
-before_one done bytes (inr more) = ap inr (sym (append_assoc done (bytes ∷ []) more))
+-- ---- the reading
 
-abbrev Reads : Option Files → List Bytes → List Text → Answer ⊎ List Bytes → Type 0
-Reads None done rest whole = Unit {0}
-Reads (Some files) done rest whole = before done (all_read files rest) ≡ whole
+pub stim_none : (name : Option Text) → name ≡ None → (told : Option Files) → IfSome told (λ files. stim_read files name ≡ inr None)
+stim_none name is None = tt
+stim_none name is (Some files) = ap (stim_read files) is
 
-module _ (files : Files) (done : List Bytes) (name : Text) (names : List Text) (whole : Answer ⊎ List Bytes) (is : before done (with_rest (file_read name (files name)) (all_read files names)) ≡ whole) where
-  -- a file that is not there is the answer
-  pub missing_answers : files name ≡ None → whole ≡ inl (Unread name)
-  missing_answers e = sym is ∙ ap (λ (f : Option Bytes). before done (with_rest (file_read name f) (all_read files names))) e
+pub stim_whole : (told : Option Files) (name : Text) (bytes : Bytes) → IfSome told (λ files. file_read name (files name) ≡ inr bytes) → IfSome told (λ files. stim_read files (Some name) ≡ inr (Some bytes))
+stim_whole None name bytes read = tt
+stim_whole (Some files) name bytes read = ap some_bytes read
 
-  -- what was read of it is there
-  of_input : (f : Option Bytes) → files name ≡ f → (v : Option Bytes) → (w : Option (Vec ℕ Global)) → contents w ≡ v → IsInput f w → whole ≡ before done (with_rest (short_or name v) (all_read files names))
-  of_input None e v w same none = absurd none
-  of_input (Some bytes) e v w same input = sym is ∙ ap (λ (f : Option Bytes). before done (with_rest (file_read name f) (all_read files names))) e ∙ ap (λ (s : Option Bytes). before done (with_rest (short_or name s) (all_read files names))) (sym input ∙ same)
+pub stim_missed : (told : Option Files) (name : Text) (not : NotRead) → IfSome told (λ files. file_read name (files name) ≡ inl not) → IfSome told (λ files. stim_read files (Some name) ≡ inl not)
+stim_missed None name not read = tt
+stim_missed (Some files) name not read = ap some_bytes read
 
-  pub long_answers : IsInput (files name) None → whole ≡ inl (Refused (too_long name))
-  long_answers input = of_input (files name) refl None None refl input
+module _ (c : Command) where
+  -- both were read
+  pub both_whole : (told : Option Files) (files : List Bytes) (stim : Option Bytes) → IfSome told (λ world. all_read world c.files ≡ inr files) → IfSome told (λ world. stim_read world c.stim ≡ inr stim)
+      → IfSome told (λ world. inputs_read world c ≡ inr (record { files = files; stim = stim }))
+  both_whole None files stim first second = tt
+  both_whole (Some world) files stim first second = ap (λ r. both_read r (stim_read world c.stim)) first ∙ ap (both_read (inr files)) second
 
-  pub file_goes_on : (v : Vec ℕ Global) → IsInput (files name) (Some v) → before (done ++ v.items ∷ []) (all_read files names) ≡ whole
-  file_goes_on v input = sym (before_one done v.items (all_read files names)) ∙ sym (of_input (files name) refl (Some v.items) (Some v) refl input)
+  -- a file of the design was not read
+  pub design_unread : (told : Option Files) (not : NotRead) → IfSome told (λ world. all_read world c.files ≡ inl not) → IfSome told (λ world. inputs_read world c ≡ inl not)
+  design_unread None not is = tt
+  design_unread (Some world) not is = ap (λ r. both_read r (stim_read world c.stim)) is
 
--- ---- where the files are told
+  -- nor was the stimulus
+  pub stim_unread : (told : Option Files) (files : List Bytes) (not : NotRead) → IfSome told (λ world. all_read world c.files ≡ inr files) → IfSome told (λ world. stim_read world c.stim ≡ inl not) → IfSome told (λ world. inputs_read world c ≡ inl not)
+  stim_unread None files not first second = tt
+  stim_unread (Some world) files not first second = ap (λ r. both_read r (stim_read world c.stim)) first ∙ ap (both_read (inr files)) second
 
-module _ (names : List Text) (at : ℕ) (done : List Bytes) (within : at < length names) where
-  abbrev name : Text
-  name = get_or names at []
+-- ---- why not all files were read
 
-  at_name : (files : Files) → before done (all_read files (drop at names)) ≡ all_read files names → before done (with_rest (file_read name (files name)) (all_read files (drop (at + 1) names))) ≡ all_read files names
-  at_name files is = ap (λ (l : List Text). before done (all_read files l)) (sym (drop_more names at [] within)) ∙ is
+among_files : (files : List Text) (stim : Option Text) (name : Text) → Contains files name → Contains (with_stim files stim) name
+among_files files None name among = among
+among_files files (Some s) name among = Contains-append_left files (s ∷ []) name among
 
-  module _ (told told1 : Option Files) (same : told1 ≡ told) where
-    -- a file was read
-    pub read_on : (v : Vec ℕ Global) → IfSome told (λ files. before done (all_read files (drop at names)) ≡ all_read files names) → IfSome told1 (λ files. IsInput (files name) (Some v))
-        → IfSome told (λ files. before (done ++ v.items ∷ []) (all_read files (drop (at + 1) names)) ≡ all_read files names)
-    read_on v is input = by told is (subst (λ (t : Option Files). IfSome t (λ files. IsInput (files name) (Some v))) same input)
-      where
-        by : (t : Option Files) → IfSome t (λ files. before done (all_read files (drop at names)) ≡ all_read files names) → IfSome t (λ files. IsInput (files name) (Some v))
-            → IfSome t (λ files. before (done ++ v.items ∷ []) (all_read files (drop (at + 1) names)) ≡ all_read files names)
-        by None is input = tt
-        by (Some files) is input = file_goes_on files done name (drop (at + 1) names) (all_read files names) (at_name files is) v input
+among_last : (files : List Text) (name : Text) → Contains (files ++ name ∷ []) name
+among_last files name = Contains-append_right files (name ∷ []) name (Contains-get_or (name ∷ []) 0 [] (omega arith))
 
-    -- a file is too long
-    pub read_long : IfSome told (λ files. before done (all_read files (drop at names)) ≡ all_read files names) → IfSome told1 (λ files. IsInput (files name) None)
-        → IfSome told (λ files. all_read files names ≡ inl (Refused (too_long name)))
-    read_long is input = by told is (subst (λ (t : Option Files). IfSome t (λ files. IsInput (files name) None)) same input)
-      where
-        by : (t : Option Files) → IfSome t (λ files. before done (all_read files (drop at names)) ≡ all_read files names) → IfSome t (λ files. IsInput (files name) None)
-            → IfSome t (λ files. all_read files names ≡ inl (Refused (too_long name)))
-        by None is input = tt
-        by (Some files) is input = long_answers files done name (drop (at + 1) names) (all_read files names) (at_name files is) input
+-- a file of the design
+pub design_stops : (s : Stop) (c : Command) (a b : Told) → Stops s c.files a b → NotInputs (refusal.Reading (source.Design s.at) s.fault) c a b
+design_stops s c a b e = (
+  among_files c.files c.stim (get_or c.files s.at []) (Contains-get_or c.files s.at [] e.within),
+  why_later (λ not. IfSome a.files (λ files. all_read files c.files ≡ inl not)) (λ not. IfSome a.files (λ files. inputs_read files c ≡ inl not)) s.fault (get_or c.files s.at []) a a b (design_unread c a.files) (leaves_none a) e.why,
+)
 
-    -- a file is not there
-    pub read_missing : IfSome told (λ files. before done (all_read files (drop at names)) ≡ all_read files names) → IsMissing told1 name
-        → IfSome told (λ files. all_read files names ≡ inl (Unread name))
-    read_missing is missing = by told is (subst (λ (t : Option Files). IsMissing t name) same missing)
-      where
-        by : (t : Option Files) → IfSome t (λ files. before done (all_read files (drop at names)) ≡ all_read files names) → IsMissing t name
-            → IfSome t (λ files. all_read files names ≡ inl (Unread name))
-        by None is missing = tt
-        by (Some files) is missing = missing_answers files done name (drop (at + 1) names) (all_read files names) (at_name files is) missing
+-- the stimulus, after the files of the design were read
+pub stim_stops : (f : ReadFault) (c : Command) (a b d : Told) (files : List Bytes) → Leaves [] a b → IfSome a.files (λ world. all_read world c.files ≡ inr files) → IsNoStimulus f c.stim b d → NotInputs (refusal.Reading source.Stimulus f) c a d
+stim_stops f c a b d files left first stop = by c.stim refl stop
+  where
+    from : (name : Text) → c.stim ≡ Some name → (not : NotRead) → IfSome b.files (λ world. file_read name (world name) ≡ inl not) → IfSome a.files (λ world. inputs_read world c ≡ inl not)
+    from name is not read =
+        let here = subst (λ (told : Option Files). IfSome told (λ world. file_read name (world name) ≡ inl not)) left.files read in
+        let missed = stim_missed a.files name not here in
+        stim_unread c a.files files not first (subst (λ (o : Option Text). IfSome a.files (λ world. stim_read world o ≡ inl not)) (sym is) missed)
 
--- ---- one file, where the files are told
+    by : (o : Option Text) → c.stim ≡ o → IsNoStimulus f o b d → NotInputs (refusal.Reading source.Stimulus f) c a d
+    by None is stop = absurd stop
+    by (Some name) is stop = subst (λ (o : Option Text). Contains (with_stim c.files o) (name_or_none o) × WhyNot (λ not. IfSome a.files (λ world. inputs_read world c ≡ inl not)) f (name_or_none o) a d) (sym is)
+        (among_last c.files name, why_later (λ not. IfSome b.files (λ world. file_read name (world name) ≡ inl not)) (λ not. IfSome a.files (λ world. inputs_read world c ≡ inl not)) f name a b d (from name is) left stop)
 
-module _ (name : Text) (told : Option Files) where
-  one_read : (files : Files) (f : Option Bytes) → files name ≡ f → (v : Option Bytes) (w : Option (Vec ℕ Global)) → contents w ≡ v → IsInput f w → file_read name (files name) ≡ short_or name v
-  one_read files None e v w same none = absurd none
-  one_read files (Some bytes) e v w same input = ap (file_read name) e ∙ ap (short_or name) (sym input ∙ same)
+-- ---- the answer
 
-  pub stim_there : (v : Vec ℕ Global) → IfSome told (λ files. IsInput (files name) (Some v)) → IfSome told (λ files. file_read name (files name) ≡ inr v.items)
-  stim_there v input = by told input
-    where
-      by : (t : Option Files) → IfSome t (λ files. IsInput (files name) (Some v)) → IfSome t (λ files. file_read name (files name) ≡ inr v.items)
-      by None input = tt
-      by (Some files) input = one_read files (files name) refl (Some v.items) (Some v) refl input
+module _ (c : Command) (h : HostView) where
+  -- it is that of the bytes that were read
+  pub read_answer : (told : Option Files) (i : Inputs) → IfSome told (λ files. inputs_read files c ≡ inr i) → (a : Answer) → BytesAnswer c h i a → IsCommandAnswer c h told a
+  read_answer None i found a is = tt
+  read_answer (Some files) i found a is = subst (λ r. InputsAnswer c h r a) (sym found) is
 
-  pub stim_long : IfSome told (λ files. IsInput (files name) None) → IfSome told (λ files. file_read name (files name) ≡ inl (Refused (too_long name)))
-  stim_long input = by told input
-    where
-      by : (t : Option Files) → IfSome t (λ files. IsInput (files name) None) → IfSome t (λ files. file_read name (files name) ≡ inl (Refused (too_long name)))
-      by None input = tt
-      by (Some files) input = one_read files (files name) refl None None refl input
+  -- or that of the file that was not read
+  missed_answer : (told : Option Files) (not : NotRead) → IfSome told (λ files. inputs_read files c ≡ inl not) → IsCommandAnswer c h told (unread_answer not)
+  missed_answer None not found = tt
+  missed_answer (Some files) not found = subst (λ r. InputsAnswer c h r (unread_answer not)) (sym found) refl
 
-  pub stim_missing : IsMissing told name → IfSome told (λ files. file_read name (files name) ≡ inl (Unread name))
-  stim_missing missing = by told missing
-    where
-      by : (t : Option Files) → IsMissing t name → IfSome t (λ files. file_read name (files name) ≡ inl (Unread name))
-      by None missing = tt
-      by (Some files) missing = ap (file_read name) missing
+  module _ (table : List Text) (a b : Told) (left : Leaves [] a b) where
+    failed_cause : (name : Text) → Rose a.faults b.faults ⊎ (Rose a.absent b.absent × IfSome a.files (λ files. inputs_read files c ≡ inl (Missing name))) → Rose a.faults b.faults ⊎ (Rose a.absent b.absent × IsCommandAnswer c h a.files (Unread name))
+    failed_cause name (inl rose) = inl rose
+    failed_cause name (inr missing) = inr (missing.0, missed_answer a.files (Missing name) missing.1)
+
+    by_fault : (f : ReadFault) (source : Source) → Contains (names_of c) (source_name c source) → WhyNot (λ not. IfSome a.files (λ files. inputs_read files c ≡ inl not)) f (source_name c source) a b
+        → Came (IsCommandAnswer c h a.files) (names_of c) (ending_of c table (refusal.Reading source f)) a b
+    by_fault fault.World source among why = inl (record { name = source_name c source; among = among; text = refl; cause = failed_cause (source_name c source) why; left = left })
+    by_fault fault.TooLong source among why = record { answer = Refused (too_long (source_name c source)); allowed = missed_answer a.files (Long (source_name c source)) why; quiet = refl; refusal = refl; left = left }
+    by_fault fault.NoMemory source among why = left
+
+    pub inputs_came : (r : Refusal) → NotInputs r c a b → Came (IsCommandAnswer c h a.files) (names_of c) (ending_of c table r) a b
+    inputs_came (refusal.Reading source f) why = by_fault f source why.0 why.1
+    inputs_came refusal.NoMemory why = absurd why
+    inputs_came (refusal.Lexing f) why = absurd why
+    inputs_came (refusal.Preprocessing f) why = absurd why
+    inputs_came (refusal.Number at) why = absurd why
+    inputs_came (refusal.Parsing f token) why = absurd why
+    inputs_came (refusal.Design f) why = absurd why
+    inputs_came (refusal.Model f) why = absurd why
+    inputs_came (refusal.Stimulus f) why = absurd why
+    inputs_came (refusal.Run f) why = absurd why
+
+-- reading creates nothing
+pub still_creatable : (s : Stream) (a b : Told) → Leaves [] a b → IsCreatable a.made s → IsCreatable b.made s
+still_creatable s a b left can = subst (λ made. IsCreatable made s) (sym (left.made ∙ sym (did_none a).made)) can

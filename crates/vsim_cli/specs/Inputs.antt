@@ -1,59 +1,57 @@
--- What is read of the files that the words name, one after another.
-use Rattle.std.specs.Prelude.{◌≡◌, ◌⊎◌, ◌≤◌, ◌<◌, ℕ, List, [], ◌∷◌, ◌++◌, length, get_or, Option, Some, None, IfSome}
+-- What is read of the files that the words name: those of the design, and then the stimulus.
+use Rattle.std.specs.Prelude.{◌≡◌, ◌⊎◌, ℕ, List, Option, Some, None, IfSome, Contains, Vec, map}
 use Rattle.std.proofs.Common.{inl, inr}
-use Rattle.vs_world.specs.Outside.{Files, Written, Rose}
-use Rattle.run_status.specs.declared.status.Status.{Status}
-use Rattle.run_status.specs.Answer.{Answer, Refused, Unread, Refuses}
-use Rattle.run_input.specs.Input.{short, Unreads}
-use Rattle.run_input.specs.declared.file.InputFault.TheVariants as fault
-use Rattle.vsim_cli.specs.declared.inputs.Stop.{Stop}
-use Rattle.vsim_cli.specs.declared.inputs.Stop.TheVariants as stop
-use Rattle.vsim_cli.specs.Case.{Text, Bytes}
+use Rattle.std.specs.declared.alloc.Global.{Global}
+use Rattle.vs_world.specs.Outside.{Files, Told}
+use Rattle.vs_world.specs.declared.whole.ReadFault.{ReadFault}
+use Rattle.run_status.specs.Lines.{Text}
+use Rattle.run_status.specs.Answer.{Answer, Refused, Unread}
+use Rattle.run_input.specs.Input.{Bytes, NotRead, Missing, Long, file_read, all_read, WhyNot}
 use Rattle.fault_text.specs.FaultText.{too_long}
+use Rattle.vsim_cli.specs.Case.{Command, names_of, source_name, bytes_by}
+use Rattle.vsim_cli.specs.declared.inputs.Inputs.{Inputs as CodeInputs}
+use Rattle.vsim_cli.specs.declared.refusal.Refusal.{Refusal}
+use Rattle.vsim_cli.specs.declared.refusal.Refusal.TheVariants as refusal
 
--- what is read of a file that is there
-abbrev pub short_or : Text → Option Bytes → Answer ⊎ Bytes
-short_or file None = inl (Refused (too_long file))
-short_or file (Some bytes) = inr bytes
+pub record Inputs : Type 0 where
+  pub files : List Bytes
+  pub stim : Option Bytes
 
-abbrev pub file_read : Text → Option Bytes → Answer ⊎ Bytes
-file_read file None = inl (Unread file)
-file_read file (Some bytes) = short_or file (short bytes)
+-- the bytes of the stimulus, where there is one
+abbrev pub some_bytes : NotRead ⊎ Bytes → NotRead ⊎ Option Bytes
+some_bytes (inl not) = inl not
+some_bytes (inr bytes) = inr (Some bytes)
 
-abbrev pub with_rest : Answer ⊎ Bytes → Answer ⊎ List Bytes → Answer ⊎ List Bytes
-with_rest (inl a) rest = inl a
-with_rest (inr bytes) (inl a) = inl a
-with_rest (inr bytes) (inr more) = inr (bytes ∷ more)
+abbrev pub stim_read : Files → Option Text → NotRead ⊎ Option Bytes
+stim_read files None = inr None
+stim_read files (Some name) = some_bytes (file_read name (files name))
 
--- the bytes of all files, or the answer at the first that is not there or is too long
-abbrev pub all_read : Files → List Text → Answer ⊎ List Bytes
-all_read files [] = inr []
-all_read files (name ∷ names) = with_rest (file_read name (files name)) (all_read files names)
+abbrev pub both_read : NotRead ⊎ List Bytes → NotRead ⊎ Option Bytes → NotRead ⊎ Inputs
+both_read (inl not) stim = inl not
+both_read (inr files) (inl not) = inl not
+both_read (inr files) (inr stim) = inr (record { files = files; stim = stim })
 
--- ---- as the code reads them
+-- the bytes of all files, or the first that is not there or is too long
+abbrev pub inputs_read : Files → Command → NotRead ⊎ Inputs
+inputs_read files c = both_read (all_read files c.files) (stim_read files c.stim)
 
--- what was read before comes first
-abbrev pub before : List Bytes → Answer ⊎ List Bytes → Answer ⊎ List Bytes
-before done (inl a) = inl a
-before done (inr more) = inr (done ++ more)
+-- the answer where a file is not read
+abbrev pub unread_answer : NotRead → Answer
+unread_answer (Missing name) = Unread name
+unread_answer (Long name) = Refused (too_long name)
 
--- why the files were not all read: that is the answer, but where faults rose or memory ran out
-abbrev pub StopCause : Stop → Option Files → List Text → ℕ → ℕ → ℕ → ℕ → Type 0
-StopCause (stop.TooLong k) told names faults faults' absent absent' =
-    (k < length names) × IfSome told (λ files. all_read files names ≡ inl (Refused (too_long (get_or names k []))))
-StopCause (stop.Unread k fault.World) told names faults faults' absent absent' =
-    (k < length names) × (Rose faults faults' ⊎ (Rose absent absent' × IfSome told (λ files. all_read files names ≡ inl (Unread (get_or names k [])))))
-StopCause (stop.Unread k fault.NoMemory) told names faults faults' absent absent' = k < length names
+-- ---- as the code has it
 
--- calls that only read files
-pub record OnlyRead {F W M : Type 0} (faults faults' absent absent' : ℕ) (files files' : F) (written written' : W) (made made' : M) : Type 0 where
-  pub later : faults ≤ faults'
-  pub absent_later : absent ≤ absent'
-  pub files_same : files' ≡ files
-  pub written_same : written' ≡ written
-  pub made_same : made' ≡ made
+abbrev pub inputs_by : CodeInputs → Inputs
+inputs_by i = record { files = map (λ (v : Vec ℕ Global). v.items) i.files.items; stim = bytes_by i.stim }
 
--- the status and the line where the files were not all read
-abbrev pub StopsWith : Status → Stop → List Text → Option Written → Option Written → ℕ → ℕ → Type 0
-StopsWith s (stop.TooLong k) names told told' faults faults' = Refuses s (too_long (get_or names k [])) told told' faults faults'
-StopsWith s (stop.Unread k f) names told told' faults faults' = Unreads s f (get_or names k []) told told' faults faults'
+-- why the stimulus was not read, which there is
+abbrev pub IsNoStimulus : ReadFault → Option Text → Told → Told → Type 0
+IsNoStimulus f None before now = ⊥
+IsNoStimulus f (Some name) before now = WhyNot (λ not. IfSome before.files (λ files. file_read name (files name) ≡ inl not)) f name before now
+
+-- a named file was not read, and why
+abbrev pub NotInputs : Refusal → Command → Told → Told → Type 0
+NotInputs (refusal.Reading source f) c before now =
+    Contains (names_of c) (source_name c source) × WhyNot (λ not. IfSome before.files (λ files. inputs_read files c ≡ inl not)) f (source_name c source) before now
+NotInputs _ c before now = ⊥

@@ -9,7 +9,8 @@ use Rattle.sv_lex.specs.declared.file.LexFault.{LexFault}
 use Rattle.sv_lex.specs.declared.file.LexFault.TheVariants as fault
 use Rattle.sv_lex.specs.declared.piece.Defect.{Defect}
 use Rattle.sv_lex.specs.declared.piece.Defect.TheVariants as defect
-use Rattle.vsim_cli.specs.Case.{Text, Bytes}
+use Rattle.run_status.specs.Lines.{Text}
+use Rattle.run_input.specs.Input.{Bytes}
 
 -- how many tokens a file may have, and how many may be read for all files
 abbrev pub most_tokens : ℕ
@@ -43,14 +44,14 @@ AreTokens table k [] (bytes ∷ files) = ⊥
 AreTokens table k (ts ∷ tokens) [] = ⊥
 AreTokens table k (ts ∷ tokens) (bytes ∷ files) = ShowsAll table ts (cut (start k) bytes).tokens × AreTokens table (suc k) tokens files
 
+-- the files have no fault of lexing; their tokens share one table of names, and any table that has their spellings will do
+pub record AreLexed (contents : List Bytes) (table : List Text) (tokens : List (List Token)) : Type 0 where
+  pub whole : first_fault 0 contents ≡ None
+  pub shown : AreTokens table 0 tokens contents
+
 -- ---- as the code finds them
 
 -- memory ran out, or this is the first fault
 abbrev pub FirstFault : List Bytes → LexFault → Type 0
 FirstFault files fault.NoMemory = Unit {0}
 FirstFault files f = first_fault 0 files ≡ Some f
-
--- the files have no fault, and these are their tokens
-pub record LexesAll (table : List Text) (files : List Bytes) (tokens : List (List Token)) : Type 0 where
-  pub whole : first_fault 0 files ≡ None
-  pub shows : AreTokens table 0 tokens files

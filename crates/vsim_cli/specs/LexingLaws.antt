@@ -8,10 +8,12 @@ use Rattle.sv_tree.specs.Names.{Grows}
 use Rattle.sv_tree.specs.NameLaws.{grows_same, grows_further}
 use Rattle.sv_lex.specs.Answer.{ShowsAll, LexesTo, FaultIs}
 use Rattle.sv_lex.specs.Cut.{Cut, cut, start}
-use Rattle.sv_lex.specs.CutLaws.{shows_grown}
+use Rattle.sv_lex.specs.CutLaws.{shows_grown, shows_named}
+use Rattle.sv_pp.specs.Answer.{AllNamed}
 use Rattle.sv_lex.specs.declared.file.LexFault.{LexFault}
 use Rattle.sv_lex.specs.declared.file.LexFault.TheVariants as fault
-use Rattle.vsim_cli.specs.Case.{Text, Bytes}
+use Rattle.run_status.specs.Lines.{Text}
+use Rattle.run_input.specs.Input.{Bytes}
 use Rattle.vsim_cli.specs.Lexing.{most_tokens, cut_fault, file_fault, or_else, first_fault, AreTokens, FirstFault}
 
 -- ---- one file
@@ -77,3 +79,13 @@ tokens_all files at table done past before =
 
 pub fault_none : (files : List Bytes) (at : ℕ) → length files ≤ at → first_fault at (drop at files) ≡ first_fault 0 files → first_fault 0 files ≡ None
 fault_none files at past is = sym is ∙ ap (first_fault at) (drop_of_length-le files past)
+
+-- ---- names of tokens
+
+tokens_named : (table : List Text) (k : ℕ) (tokens : List (List Token)) (files : List Bytes) → AreTokens table k tokens files → AllNamed table tokens
+tokens_named table k [] files are = tt
+tokens_named table k (ts ∷ tokens) [] are = absurd are
+tokens_named table k (ts ∷ tokens) (bytes ∷ files) are = (shows_named table ts (cut (start k) bytes).tokens are.0, tokens_named table _ tokens files are.1)
+
+pub all_named : (table : List Text) (tokens : List (List Token)) (files : List Bytes) → AreTokens table 0 tokens files → AllNamed table tokens
+all_named table tokens files are = tokens_named table 0 tokens files are

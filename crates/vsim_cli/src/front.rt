@@ -1,32 +1,76 @@
 // From the bytes of the files to the laid out design.
-ghost use Rattle.std.specs.Prelude.{◌≡◌, ◌≤◌, ℕ, List, All, length, map, IfOk, OnErr, IfSome, is_some, true};
-ghost use Rattle.vs_world.specs.declared.world.Stream.TheVariants.{Calls as CallStream, Vcd as VcdStream};
-ghost use Rattle.vs_world.specs.Outside.{IsCreatable};
-ghost use Rattle.run_status.specs.Answer.{Table};
+ghost use Rattle.std.specs.Prelude.{◌≡◌, ◌≤◌, List, All, length, map, IfOk, OnErr, IfErr, IfSome, is_some, true};
 ghost use Rattle.sv_tree.specs.Tokens.{AreNamed};
 ghost use Rattle.sv_tree.specs.Names.{IsAbsent};
-ghost use Rattle.sv_pp.specs.Active.{reading};
-ghost use Rattle.sv_pp.specs.Answer.{AllNamed};
-ghost use Rattle.vsim_cli.specs.Case.{case_of, command_by, host_view, bytes_by};
-ghost use Rattle.vsim_cli.specs.Check.{AreNumbers, Asked, DesignAnswer, TokensAnswer, ReadingAnswer, BytesAnswer};
+ghost use Rattle.run_status.specs.Stages.{RefusedBy};
+ghost use Rattle.vsim_cli.specs.Case.{Command as CommandOf};
+ghost use Rattle.vsim_cli.specs.Refusals.{ending_of};
+ghost use Rattle.vsim_cli.specs.Front.{Asked, told_token, BytesRefused, AreActive, TokensRefused, IsTree, DesignRefused, IsLaid};
 
-use crate::command::Command;
 use crate::lexing::lex_files;
-use crate::model::model_laid;
-use dpi_host::Host;
-use fault_text::{
-    refuse_design, refuse_lexing, refuse_number, refuse_parsing, refuse_preprocessing,
-};
-use run_status::{Status, out_of_memory};
+use crate::refusal::Refusal;
+use parse_expr::ParseFault;
 use std::alloc::Global;
-use sv_elab::elaborate;
+use sv_elab::{Scopes, elaborate};
 use sv_lex::check_numbers;
 use sv_names::DesignFault;
 use sv_parse::parse;
 use sv_pp::preprocess;
 use sv_tree::{NameId, Names, SourceTree, Token};
 use vs_base::Text;
-use vs_world::World;
+
+/// The active tokens of all files: their bytes are cut into tokens, file by file, and then preprocessed.
+pub fn active_tokens(
+    alloc: Global,
+    files: &[Vec<u8>],
+    names: &mut Names,
+) -> Result<Vec<Token>, Refusal>
+    requires count { length files.now ≤ 64 }
+    requires bytes { All (λ bytes. length bytes.items ≤ 4194304) files.now }
+    ensures active { IfOk result (λ tokens. AreActive (map (λ f. f.items) files.now) names.new tokens.items) }
+    ensures named { IfOk result (λ tokens. AreNamed names.new tokens.items) }
+    ensures few { IfOk result (λ tokens. length tokens.items ≤ 1000000) }
+    ensures refusal { IfErr result (λ r. (c : CommandOf) → RefusedBy (ending_of c names.new r) (BytesRefused c.files (map (λ f. f.items) files.now))) }
+{
+    let tokens = match lex_files(alloc, files, names) {
+        Ok(tokens) => tokens,
+        Err(fault) => return Err(Refusal::Lexing(fault)),
+    };
+    match preprocess(alloc, &tokens, names) {
+        Ok(active) => Ok(active),
+        Err(fault) => Err(Refusal::Preprocessing(fault)),
+    }
+}
+
+// The token that a fault tells, where there is one.
+fn token_of(tokens: &[Token], fault: ParseFault) -> Option<Token>
+    ensures { result ≡ told_token tokens.now fault }
+{
+    match fault {
+        ParseFault::Construct(k) | ParseFault::Syntax(k) | ParseFault::TooDeep(k) => {
+            tokens.get(k as usize).copied()
+        }
+        ParseFault::NoMemory => None,
+    }
+}
+
+/// The tree that the active tokens have: their numbers are numbers, none is outside of the subset, and no thing stands in
+/// more than 128 things.
+pub fn tree_of(alloc: Global, names: &Names, tokens: &[Token]) -> Result<SourceTree, Refusal>
+    requires named { AreNamed names.now tokens.now }
+    requires few { length tokens.now ≤ 1000000 }
+    ensures tree { IfOk result (λ tree. IsTree names.now tokens.now tree) }
+    ensures refusal { IfErr result (λ r. (c : CommandOf) → RefusedBy (ending_of c names.now r) (TokensRefused c.files names.now tokens.now)) }
+{
+    match check_numbers(tokens, names) {
+        Ok(()) => {}
+        Err(k) => return Err(Refusal::Number(tokens[k as usize].at)),
+    }
+    match parse(alloc, tokens, names) {
+        Ok(tree) => Ok(tree),
+        Err(fault) => Err(Refusal::Parsing(fault, token_of(tokens, fault))),
+    }
+}
 
 // No token has the name that the module at the top is to have.
 #[derive(Clone, Copy, Debug, PartialEq, Eq)]
@@ -47,140 +91,22 @@ fn asked(names: &Names, top: &Option<Text>) -> Result<Option<NameId>, NoSuchName
     }
 }
 
-// Lays the design out from its top module.
-fn check_laid<W: World, H: Host>(
+/// The scopes of the design, from its top module.
+pub fn lay_out(
     alloc: Global,
-    world: &mut W,
-    command: &Command<'_>,
-    stim: &Option<Vec<u8>>,
+    top: &Option<Text>,
     names: &Names,
     tree: &SourceTree,
-    name: Option<NameId>,
-    host: H,
-) -> Status
-    requires asked { Asked names.now command.now.top name }
-    requires calls { IsCreatable (W.made world.old) CallStream }
-    requires vcd { IsCreatable (W.made world.old) VcdStream }
-    requires short { IfSome stim.now (λ s. length s.items ≤ 4194304) }
-    ensures table { (named : List (List ℕ)) → Table (DesignAnswer (case_of (command_by command.now) (host_view (H.id_of (H.fixed host)) (H.by_args (H.fixed host)) H.answer H.after (H.fixed host) (H.state host)) (bytes_by stim.now)) names.now tree.now) result named (W.written world.old) (W.written world.new) (W.made world.old) (W.made world.new) (W.faults world.old) (W.faults world.new) (W.absent world.old) (W.absent world.new) }
+) -> Result<Scopes, Refusal>
+    ensures laid { IfOk result (λ scopes. IsLaid top.now names.now tree.now scopes.scopes.items) }
+    ensures refusal { IfErr result (λ r. (c : CommandOf) → RefusedBy (ending_of c names.now r) (DesignRefused c.files top.now names.now tree.now)) }
 {
-    match elaborate(alloc, tree, names, name) {
-        Ok(scopes) => model_laid(alloc, world, command, stim, names, tree, &scopes, host),
-        Err(fault) => refuse_design(world, command.files, names, fault),
-    }
-}
-
-// Checks the design that the tree is.
-fn check_design<W: World, H: Host>(
-    alloc: Global,
-    world: &mut W,
-    command: &Command<'_>,
-    stim: &Option<Vec<u8>>,
-    names: &Names,
-    tree: &SourceTree,
-    host: H,
-) -> Status
-    requires calls { IsCreatable (W.made world.old) CallStream }
-    requires vcd { IsCreatable (W.made world.old) VcdStream }
-    requires short { IfSome stim.now (λ s. length s.items ≤ 4194304) }
-    ensures table { (named : List (List ℕ)) → Table (DesignAnswer (case_of (command_by command.now) (host_view (H.id_of (H.fixed host)) (H.by_args (H.fixed host)) H.answer H.after (H.fixed host) (H.state host)) (bytes_by stim.now)) names.now tree.now) result named (W.written world.old) (W.written world.new) (W.made world.old) (W.made world.new) (W.faults world.old) (W.faults world.new) (W.absent world.old) (W.absent world.new) }
-{
-    match asked(names, &command.top) {
-        Ok(name) => check_laid(alloc, world, command, stim, names, tree, name, host),
-        Err(NoSuchName) => refuse_design(world, command.files, names, DesignFault::NoTop),
-    }
-}
-
-// Checks the syntax and the depth of the active tokens, whose numbers are numbers.
-fn check_syntax<W: World, H: Host>(
-    alloc: Global,
-    world: &mut W,
-    command: &Command<'_>,
-    stim: &Option<Vec<u8>>,
-    names: &Names,
-    tokens: &[Token],
-    host: H,
-) -> Status
-    requires named { AreNamed names.now tokens.now }
-    requires few { length tokens.now ≤ 1000000 }
-    requires numbers { AreNumbers names.now tokens.now }
-    requires calls { IsCreatable (W.made world.old) CallStream }
-    requires vcd { IsCreatable (W.made world.old) VcdStream }
-    requires short { IfSome stim.now (λ s. length s.items ≤ 4194304) }
-    ensures table { (named : List (List ℕ)) → Table (TokensAnswer (case_of (command_by command.now) (host_view (H.id_of (H.fixed host)) (H.by_args (H.fixed host)) H.answer H.after (H.fixed host) (H.state host)) (bytes_by stim.now)) names.now tokens.now) result named (W.written world.old) (W.written world.new) (W.made world.old) (W.made world.new) (W.faults world.old) (W.faults world.new) (W.absent world.old) (W.absent world.new) }
-{
-    match parse(alloc, tokens, names) {
-        Ok(tree) => check_design(alloc, world, command, stim, names, &tree, host),
-        Err(fault) => refuse_parsing(world, command.files, names, tokens, fault),
-    }
-}
-
-// Checks the active tokens.
-fn check_active<W: World, H: Host>(
-    alloc: Global,
-    world: &mut W,
-    command: &Command<'_>,
-    stim: &Option<Vec<u8>>,
-    names: &Names,
-    tokens: &[Token],
-    host: H,
-) -> Status
-    requires named { AreNamed names.now tokens.now }
-    requires few { length tokens.now ≤ 1000000 }
-    requires calls { IsCreatable (W.made world.old) CallStream }
-    requires vcd { IsCreatable (W.made world.old) VcdStream }
-    requires short { IfSome stim.now (λ s. length s.items ≤ 4194304) }
-    ensures table { (named : List (List ℕ)) → Table (TokensAnswer (case_of (command_by command.now) (host_view (H.id_of (H.fixed host)) (H.by_args (H.fixed host)) H.answer H.after (H.fixed host) (H.state host)) (bytes_by stim.now)) names.now tokens.now) result named (W.written world.old) (W.written world.new) (W.made world.old) (W.made world.new) (W.faults world.old) (W.faults world.new) (W.absent world.old) (W.absent world.new) }
-{
-    match check_numbers(tokens, names) {
-        Ok(()) => check_syntax(alloc, world, command, stim, names, tokens, host),
-        Err(k) => refuse_number(world, command.files, tokens, k),
-    }
-}
-
-// Preprocesses the tokens of all files, and checks what is left.
-fn check_tokens<W: World, H: Host>(
-    alloc: Global,
-    world: &mut W,
-    command: &Command<'_>,
-    stim: &Option<Vec<u8>>,
-    names: &Names,
-    tokens: &[Vec<Token>],
-    host: H,
-) -> Status
-    requires named { AllNamed names.now (map (λ t. t.items) tokens.now) }
-    requires calls { IsCreatable (W.made world.old) CallStream }
-    requires vcd { IsCreatable (W.made world.old) VcdStream }
-    requires short { IfSome stim.now (λ s. length s.items ≤ 4194304) }
-    ensures table { (named : List (List ℕ)) → Table (ReadingAnswer (case_of (command_by command.now) (host_view (H.id_of (H.fixed host)) (H.by_args (H.fixed host)) H.answer H.after (H.fixed host) (H.state host)) (bytes_by stim.now)) names.now (reading names.now (map (λ t. t.items) tokens.now))) result named (W.written world.old) (W.written world.new) (W.made world.old) (W.made world.new) (W.faults world.old) (W.faults world.new) (W.absent world.old) (W.absent world.new) }
-{
-    match preprocess(alloc, tokens, names) {
-        Ok(active) => check_active(alloc, world, command, stim, names, &active, host),
-        Err(fault) => refuse_preprocessing(world, command.files, names, fault),
-    }
-}
-
-// Cuts the bytes of all files into tokens, and checks those.
-pub fn check_files<W: World, H: Host>(
-    alloc: Global,
-    world: &mut W,
-    command: &Command<'_>,
-    stim: &Option<Vec<u8>>,
-    contents: &[Vec<u8>],
-    host: H,
-) -> Status
-    requires count { length contents.now ≤ 64 }
-    requires bytes { All (λ bytes. length bytes.items ≤ 4194304) contents.now }
-    requires calls { IsCreatable (W.made world.old) CallStream }
-    requires vcd { IsCreatable (W.made world.old) VcdStream }
-    requires short { IfSome stim.now (λ s. length s.items ≤ 4194304) }
-    ensures table { (named : List (List ℕ)) → Table (BytesAnswer (case_of (command_by command.now) (host_view (H.id_of (H.fixed host)) (H.by_args (H.fixed host)) H.answer H.after (H.fixed host) (H.state host)) (bytes_by stim.now)) (map (λ f. f.items) contents.now)) result named (W.written world.old) (W.written world.new) (W.made world.old) (W.made world.new) (W.faults world.old) (W.faults world.new) (W.absent world.old) (W.absent world.new) }
-{
-    let Ok(mut names) = Names::new(alloc) else {
-        return out_of_memory(world);
+    let name = match asked(names, top) {
+        Ok(name) => name,
+        Err(NoSuchName) => return Err(Refusal::Design(DesignFault::NoTop)),
     };
-    match lex_files(alloc, contents, &mut names) {
-        Ok(tokens) => check_tokens(alloc, world, command, stim, &names, &tokens, host),
-        Err(fault) => refuse_lexing(world, command.files, fault),
+    match elaborate(alloc, tree, names, name) {
+        Ok(scopes) => Ok(scopes),
+        Err(fault) => Err(Refusal::Design(fault)),
     }
 }

@@ -1,45 +1,64 @@
 // The bytes of the files that the words name.
-ghost use Rattle.std.specs.Prelude.{◌≡◌, ◌≤◌, length, All, IfOk, IfErr, IfSome, map};
+ghost use Rattle.std.specs.Prelude.{◌≡◌, ◌≤◌, [], length, map, All, IfOk, IfErr, IfSome};
 ghost use Rattle.std.proofs.Common.{inr};
-ghost use Rattle.vsim_cli.specs.Inputs.{all_read, StopCause, OnlyRead};
+ghost use Rattle.run_status.specs.Answer.{Leaves};
+ghost use Rattle.vsim_cli.specs.Case.{command_by, bytes_by};
+ghost use Rattle.vsim_cli.specs.Inputs.{stim_read, inputs_by, inputs_read, NotInputs, IsNoStimulus};
 
-use run_input::{InputFault, input};
-use run_status::file_name;
+use crate::command::{Command, Source};
+use crate::refusal::Refusal;
+use run_input::{Stop, read_files};
 use std::alloc::Global;
 use vs_base::Text;
-use vs_world::World;
+use vs_base::limits::FILE_BYTES;
+use vs_world::{ReadFault, World, read_all};
 
-/// Why not all files were read, with the number of the file.
-#[derive(Clone, Copy, Debug, PartialEq, Eq)]
-pub enum Stop {
-    TooLong(usize),
-    Unread(usize, InputFault),
+/// The bytes of the files of the design, and of the stimulus where there is one.
+#[derive(Drop)]
+pub struct Inputs {
+    pub files: Vec<Vec<u8>>,
+    pub stim: Option<Vec<u8>>,
 }
 
-/// The bytes of the files, in order.
-pub fn read_files<W: World>(
+// The bytes of the stimulus, where there is one.
+fn read_stimulus<W: World>(
     alloc: Global,
     world: &mut W,
-    names: &[Text],
-) -> Result<Vec<Vec<u8>>, Stop>
-    ensures found { IfOk result (λ v. IfSome (W.files world.old) (λ files. all_read files names.now ≡ inr (map (λ b. b.items) v.items))) }
-    ensures few { IfOk result (λ v. All (λ bytes. length bytes.items ≤ 4194304) v.items) }
-    ensures count { IfOk result (λ v. length v.items ≡ length names.now) }
-    ensures stop { IfErr result (λ s. StopCause s (W.files world.old) names.now (W.faults world.old) (W.faults world.new) (W.absent world.old) (W.absent world.new)) }
-    ensures rest { OnlyRead (W.faults world.old) (W.faults world.new) (W.absent world.old) (W.absent world.new) (W.files world.old) (W.files world.new) (W.written world.old) (W.written world.new) (W.made world.old) (W.made world.new) }
+    name: &Option<Text>,
+) -> Result<Option<Vec<u8>>, ReadFault>
+    ensures found { IfOk result (λ v. IfSome (W.told world.old).files (λ files. stim_read files name.now ≡ inr (bytes_by v))) }
+    ensures few { IfOk result (λ v. IfSome v (λ bytes. length bytes.items ≤ 4194304)) }
+    ensures stop { IfErr result (λ f. IsNoStimulus f name.now (W.told world.old) (W.told world.new)) }
+    ensures rest { Leaves [] (W.told world.old) (W.told world.new) }
 {
-    let mut files = Vec::new(alloc);
-    let mut at = 0;
-    while at < names.len() {
-        let bytes = match input(alloc, world, file_name(names, at)) {
-            Ok(Some(bytes)) => bytes,
-            Ok(None) => return Err(Stop::TooLong(at)),
-            Err(fault) => return Err(Stop::Unread(at, fault)),
-        };
-        let Ok(()) = files.push(bytes) else {
-            return Err(Stop::Unread(at, InputFault::NoMemory));
-        };
-        at += 1;
+    let Some(name) = name else {
+        return Ok(None);
+    };
+    match read_all(alloc, world, name.as_bytes(), FILE_BYTES) {
+        Ok(bytes) => Ok(Some(bytes)),
+        Err(fault) => Err(fault),
     }
-    Ok(files)
+}
+
+/// The bytes of all files, those of the design and then that of the stimulus; or the first that was not read, and why.
+pub fn read_inputs<W: World>(
+    alloc: Global,
+    world: &mut W,
+    command: &Command,
+) -> Result<Inputs, Refusal>
+    ensures found { IfOk result (λ i. IfSome (W.told world.old).files (λ files. inputs_read files (command_by command.now) ≡ inr (inputs_by i))) }
+    ensures few { IfOk result (λ i. All (λ bytes. length bytes.items ≤ 4194304) i.files.items) }
+    ensures count { IfOk result (λ i. length i.files.items ≡ length command.now.files.items) }
+    ensures short { IfOk result (λ i. IfSome i.stim (λ bytes. length bytes.items ≤ 4194304)) }
+    ensures stop { IfErr result (λ r. NotInputs r (command_by command.now) (W.told world.old) (W.told world.new)) }
+    ensures rest { Leaves [] (W.told world.old) (W.told world.new) }
+{
+    let files = match read_files(alloc, world, command.files.as_slice()) {
+        Ok(files) => files,
+        Err(Stop { at, fault }) => return Err(Refusal::Reading(Source::Design(at), fault)),
+    };
+    match read_stimulus(alloc, world, &command.stim) {
+        Ok(stim) => Ok(Inputs { files, stim }),
+        Err(fault) => Err(Refusal::Reading(Source::Stimulus, fault)),
+    }
 }

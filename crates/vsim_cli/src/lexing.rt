@@ -1,6 +1,6 @@
 // The tokens of all files.
 ghost use Rattle.std.specs.Prelude.{◌≤◌, length, map, All, IfOk, IfErr};
-ghost use Rattle.vsim_cli.specs.Lexing.{FirstFault, LexesAll};
+ghost use Rattle.vsim_cli.specs.Lexing.{FirstFault, AreLexed};
 
 use std::alloc::Global;
 use sv_lex::{LexFault, lex};
@@ -14,7 +14,7 @@ pub fn lex_files(
 ) -> Result<Vec<Vec<Token>>, LexFault>
     requires count { length files.now ≤ 64 }
     requires few { All (λ bytes. length bytes.items ≤ 4194304) files.now }
-    ensures tokens { IfOk result (λ tokens. LexesAll names.new (map (λ f. f.items) files.now) (map (λ t. t.items) tokens.items)) }
+    ensures tokens { IfOk result (λ tokens. AreLexed (map (λ f. f.items) files.now) names.new (map (λ t. t.items) tokens.items)) }
     ensures fault { IfErr result (λ f. FirstFault (map (λ f. f.items) files.now) f) }
 {
     let mut tokens = Vec::new(alloc);

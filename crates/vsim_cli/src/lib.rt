@@ -8,15 +8,15 @@
 //!
 //! # The stages
 //!
-//! The call reads as the list of its stages, which is the one order of work and of refusals. The first fault ends the
-//! command by one line on standard error, and nothing else is written then and no file created.
+//! `top` reads as the list of the stages, which is the one order of work and of refusals. Each stage gives its value or a
+//! [`Refusal`](refusal::Refusal). The first refusal ends the command: `refuse` writes its one line on standard error.
+//! Where that is not the run's, nothing else was written and no file created.
 //!
 //! | Stage | Module | Crate |
 //! |---|---|---|
-//! | the words have settings | `top` | `vsim_words` |
-//! | the files are read, those of the design and then the stimulus | `inputs`, `top` | `run_input` |
-//! | the bytes of each file are cut into tokens | `lexing`, `front` | `sv_lex` |
-//! | the active tokens of all files | `front` | `sv_pp` |
+//! | the words have settings | `top`, `command` | `vsim_words` |
+//! | the files are read, those of the design and then the stimulus | `inputs` | `run_input` |
+//! | the bytes of each file are cut into tokens; the active tokens of all files | `lexing`, `front` | `sv_lex`, `sv_pp` |
 //! | numbers; what is outside the subset; syntax and depth | `front` | `sv_lex`, `sv_parse` |
 //! | the design is laid out from its top module | `front` | `sv_elab` |
 //! | the flat design, and its model | `model` | `rtl_flat`, `model_build` |
@@ -29,11 +29,11 @@
 //! # What is proved
 //!
 //! The contract of [`vsim`] is the table of `run_status` over the answers that the words, the files and the host allow
-//! (`specs/Check.antt` and `specs/Model.antt`): a refusal by the line of a fault; a named file that is not there; or the
-//! texts of the run, which are those of the session (`sim_session`) on the model that was built, from its opening on
-//! that host. `Done` has all texts whole and exactly the named files created, the call log before the waveform;
-//! `Refused` has its line whole, nothing else written and nothing created; at `WorldFault` and `NoMemory` each stream has a
-//! front of its text, and the files are the first of those. `specs/CheckLaws.antt` shows that each command line has an answer.
+//! (`specs/Answers.antt`): a refusal by the line of a fault; a named file that is not there; or the entries of the run, which
+//! are those of the session (`sim_session`) on the model that was built, from its opening on that host, up to an eval that
+//! does not converge, where there is one. Words without settings are refused as usage whatever the world tells.
+//! `specs/Front.antt` and `specs/Model.antt` say of each stage what it hands on and for what it refuses, and
+//! `specs/Refusals.antt` which line tells each refusal. `specs/CheckLaws.antt` shows that each command line has an answer.
 //!
 //! Which of several faults of a design comes is said only as far as `sv_elab` says it. That the flat design means what
 //! its source does is not said here.
@@ -56,6 +56,7 @@ mod front;
 mod inputs;
 mod lexing;
 mod model;
+mod refusal;
 mod top;
 
 pub use top::vsim;

@@ -1,117 +1,116 @@
 // The whole command.
-ghost use Rattle.std.specs.Prelude.{◌≡◌, ◌≤◌, ℕ, List, All, Contains, length, map, string_bytes};
+ghost use Rattle.std.specs.Prelude.{◌≡◌, ◌≤◌, All, List, length, map, IfOk, IfErr, OnOk, string_bytes};
 ghost use Rattle.vs_world.specs.declared.world.Stream.TheVariants.{Calls as CallStream, Vcd as VcdStream};
 ghost use Rattle.vs_world.specs.Outside.{IsCreatable};
 ghost use Rattle.run_status.specs.Answer.{Table};
-ghost use Rattle.run_status.specs.Written.{OnlyWrites};
+ghost use Rattle.run_status.specs.Stages.{RefusedBy, Came, Finished};
 ghost use Rattle.vsim_words.specs.Settings.{settings_of};
-ghost use Rattle.vsim_words.specs.SettingsLaws.{HasFiles};
-ghost use Rattle.vsim_words.specs.Views.{settings_by_options};
-ghost use Rattle.vsim_cli.specs.Case.{command_by, command_of, host_view, stim_of as stim_named, with_stim};
-ghost use Rattle.vsim_cli.specs.Inputs.{StopsWith};
-ghost use Rattle.vsim_cli.specs.Check.{IsContentsAnswer, IsCommandAnswer, IsToldAnswer, named_in};
+ghost use Rattle.vsim_cli.specs.Case.{command_by, host_view, names_of};
+ghost use Rattle.vsim_cli.specs.Refusals.{ending_of};
+ghost use Rattle.vsim_cli.specs.Answers.{CheckRefused, IsChecked, IsCommandAnswer, IsAnswer, named_in};
 
-use crate::command::{Command, stim_of};
-use crate::front::check_files;
-use crate::inputs::{Stop, read_files};
+use crate::command::{Command, command_of};
+use crate::front::{active_tokens, lay_out, tree_of};
+use crate::inputs::read_inputs;
+use crate::model::{model_of, run_model};
+use crate::refusal::{Refusal, refuse};
 use dpi_host::Host;
-use fault_text::{refuse_length, refuse_words};
-use run_input::{input, unread};
-use run_status::{Status, file_name, out_of_memory};
-use sim_session::Texts;
+use fault_text::refuse_words;
+use plan_types::Built;
+use run_status::{Status, out_of_memory};
 use std::alloc::Global;
 use std::thread::Threads;
-use vs_base::Text;
+use sv_tree::Names;
 use vs_world::World;
-use vsim_words::{Options, WordsFault, settings};
+use vsim_words::{WordsFault, settings};
 
-// Reads the stimulus, where there is one, and goes on with the bytes of all files.
-fn read_stimulus<W: World, H: Host>(
+// The model of the design in these files: each stage of its check, in order.
+fn check<H: Host>(
+    alloc: Global,
+    command: &Command,
+    files: &[Vec<u8>],
+    names: &mut Names,
+    host: &H,
+) -> Result<Built, Refusal>
+    requires count { length files.now ≤ 64 }
+    requires bytes { All (λ bytes. length bytes.items ≤ 4194304) files.now }
+    ensures checked { IfOk result (IsChecked (command_by command.now) (host_view (H.id_of (H.fixed host.now)) (H.by_args (H.fixed host.now)) H.answer H.after (H.fixed host.now) (H.state host.now)) (map (λ f. f.items) files.now)) }
+    ensures refusal { IfErr result (λ r. RefusedBy (ending_of (command_by command.now) names.new r) (CheckRefused (command_by command.now) (host_view (H.id_of (H.fixed host.now)) (H.by_args (H.fixed host.now)) H.answer H.after (H.fixed host.now) (H.state host.now)) (map (λ f. f.items) files.now))) }
+{
+    let tokens = match active_tokens(alloc, files, names) {
+        Ok(tokens) => tokens,
+        Err(refusal) => return Err(refusal),
+    };
+    let tree = match tree_of(alloc, names, &tokens) {
+        Ok(tree) => tree,
+        Err(refusal) => return Err(refusal),
+    };
+    let scopes = match lay_out(alloc, &command.top, names, &tree) {
+        Ok(scopes) => scopes,
+        Err(refusal) => return Err(refusal),
+    };
+    match model_of(alloc, command.mode, names, &tree, &scopes, host) {
+        Ok(built) => Ok(built),
+        Err(refusal) => Err(refusal),
+    }
+}
+
+// The stages of a command, in the one order of work and of refusals.
+fn stages<W: World, H: Host>(
     alloc: Global,
     world: &mut W,
-    command: &Command<'_>,
-    stim: &Option<Text>,
-    contents: &[Vec<u8>],
+    command: &Command,
+    names: &mut Names,
     host: H,
-) -> Status
-    requires count { length contents.now ≤ 64 }
-    requires bytes { All (λ bytes. length bytes.items ≤ 4194304) contents.now }
-    requires calls { IsCreatable (W.made world.old) CallStream }
-    requires vcd { IsCreatable (W.made world.old) VcdStream }
-    ensures table { Table (IsContentsAnswer (command_by command.now) (host_view (H.id_of (H.fixed host)) (H.by_args (H.fixed host)) H.answer H.after (H.fixed host) (H.state host)) stim.now (W.files world.old) (map (λ f. f.items) contents.now)) result (with_stim command.now.files.now stim.now) (W.written world.old) (W.written world.new) (W.made world.old) (W.made world.new) (W.faults world.old) (W.faults world.new) (W.absent world.old) (W.absent world.new) }
+) -> Result<(), Refusal>
+    requires count { length command.now.files.items ≤ 64 }
+    requires calls { IsCreatable (W.told world.old).made CallStream }
+    requires vcd { IsCreatable (W.told world.old).made VcdStream }
+    ensures done { OnOk result (Finished (IsCommandAnswer (command_by command.now) (host_view (H.id_of (H.fixed host)) (H.by_args (H.fixed host)) H.answer H.after (H.fixed host) (H.state host)) (W.told world.old).files) (W.told world.old) (W.told world.new)) }
+    ensures came { IfErr result (λ r. Came (IsCommandAnswer (command_by command.now) (host_view (H.id_of (H.fixed host)) (H.by_args (H.fixed host)) H.answer H.after (H.fixed host) (H.state host)) (W.told world.old).files) (names_of (command_by command.now)) (ending_of (command_by command.now) names.new r) (W.told world.old) (W.told world.new)) }
 {
-    let Some(name) = stim else {
-        return check_files(alloc, world, command, &None, contents, host);
+    let inputs = match read_inputs(alloc, world, command) {
+        Ok(inputs) => inputs,
+        Err(refusal) => return Err(refusal),
     };
-    match input(alloc, world, name.as_bytes()) {
-        Ok(Some(bytes)) => check_files(alloc, world, command, &Some(bytes), contents, host),
-        Ok(None) => refuse_length(world, name.as_bytes()),
-        Err(fault) => unread(world, name.as_bytes(), fault),
+    let built = match check(alloc, command, inputs.files.as_slice(), names, &host) {
+        Ok(built) => built,
+        Err(refusal) => return Err(refusal),
+    };
+    match run_model(alloc, world, command, &inputs.stim, &built, host) {
+        Ok(()) => Ok(()),
+        Err(refusal) => Err(refusal),
     }
 }
 
-// Ends where the files of the design were not all read.
-fn stopped<W: World>(world: &mut W, files: &[Text], stop: Stop) -> Status
-    ensures told { StopsWith result stop files.now (W.written world.old) (W.written world.new) (W.faults world.old) (W.faults world.new) }
-    ensures rest { OnlyWrites (W.faults world.old) (W.faults world.new) (W.absent world.old) (W.absent world.new) (W.files world.old) (W.files world.new) (W.made world.old) (W.made world.new) }
-{
-    match stop {
-        Stop::TooLong(k) => refuse_length(world, file_name(files, k)),
-        Stop::Unread(k, fault) => unread(world, file_name(files, k), fault),
-    }
-}
-
-// Reads the named files, and goes on with their bytes.
-fn run_named<W: World, H: Host>(
+// Runs a command, and tells by its line why it ends before all is done.
+fn run_command<W: World, H: Host>(
     alloc: Global,
     world: &mut W,
-    command: &Command<'_>,
-    stim: &Option<Text>,
+    command: &Command,
     host: H,
 ) -> Status
-    requires count { length command.now.files.now ≤ 64 }
-    requires calls { IsCreatable (W.made world.old) CallStream }
-    requires vcd { IsCreatable (W.made world.old) VcdStream }
-    ensures table { Table (IsCommandAnswer (command_by command.now) (host_view (H.id_of (H.fixed host)) (H.by_args (H.fixed host)) H.answer H.after (H.fixed host) (H.state host)) stim.now (W.files world.old)) result (with_stim command.now.files.now stim.now) (W.written world.old) (W.written world.new) (W.made world.old) (W.made world.new) (W.faults world.old) (W.faults world.new) (W.absent world.old) (W.absent world.new) }
+    requires count { length command.now.files.items ≤ 64 }
+    requires calls { IsCreatable (W.told world.old).made CallStream }
+    requires vcd { IsCreatable (W.told world.old).made VcdStream }
+    ensures table { Table (IsCommandAnswer (command_by command.now) (host_view (H.id_of (H.fixed host)) (H.by_args (H.fixed host)) H.answer H.after (H.fixed host) (H.state host)) (W.told world.old).files) result (names_of (command_by command.now)) (W.told world.old) (W.told world.new) }
 {
-    match read_files(alloc, world, command.files) {
-        Ok(contents) => read_stimulus(alloc, world, command, stim, &contents, host),
-        Err(stop) => stopped(world, command.files, stop),
-    }
-}
-
-// Does what the options ask for.
-fn run_options<W: World, H: Host>(alloc: Global, world: &mut W, options: Options, host: H) -> Status
-    requires files { HasFiles options.files.items }
-    requires calls { IsCreatable (W.made world.old) CallStream }
-    requires vcd { IsCreatable (W.made world.old) VcdStream }
-    ensures table { Table (IsCommandAnswer (command_of (settings_by_options options)) (host_view (H.id_of (H.fixed host)) (H.by_args (H.fixed host)) H.answer H.after (H.fixed host) (H.state host)) (stim_named options.action) (W.files world.old)) result (with_stim options.files.items (stim_named options.action)) (W.written world.old) (W.written world.new) (W.made world.old) (W.made world.new) (W.faults world.old) (W.faults world.new) (W.absent world.old) (W.absent world.new) }
-{
-    let Options {
-        files,
-        action,
-        top_module,
-        threads: _,
-        threads_dpi,
-        calls,
-        vcd,
-    } = options;
-    let command = Command {
-        files: files.as_slice(),
-        top: top_module,
-        mode: threads_dpi,
-        texts: Texts { calls, vcd },
+    let Ok(mut names) = Names::new(alloc) else {
+        return out_of_memory(world);
     };
-    let stim = stim_of(action);
-    run_named(alloc, world, &command, &stim, host)
+    match stages(alloc, world, command, &mut names, host) {
+        Ok(()) => Status::Done,
+        Err(refusal) => refuse(world, command, &names, refusal),
+    }
 }
 
 /// Runs the command of these words: checks the design in 1 to 64 files (`--lint-only`) or runs it on a stimulus (`--stim`).
 ///
 /// Gives `Done` where nothing is refused and all texts are written; `Refused` where the words, the design or the stimulus
-/// are refused, by one line on standard error and nothing else; `WorldFault` where reading, creating or writing failed, or
-/// a file is not there; `NoMemory` where memory ran out. What each says of the streams and the files is the table of
-/// `run_status`. No thread is started yet.
+/// are refused, by one line on standard error and nothing else, or where an eval of the run does not converge, by one line
+/// after the texts of the evals before; `WorldFault` where reading, creating or writing failed, or a file is not there;
+/// `NoMemory` where memory ran out, with nothing written but that line. What each says of the streams and the files is the
+/// table of `run_status`. No thread is started yet.
 pub fn vsim<T: Threads + Sync, W: World, H: Host>(
     _rt: &T,
     alloc: Global,
@@ -119,12 +118,12 @@ pub fn vsim<T: Threads + Sync, W: World, H: Host>(
     world: &mut W,
     host: H,
 ) -> Status
-    requires calls { IsCreatable (W.made world.old) CallStream }
-    requires vcd { IsCreatable (W.made world.old) VcdStream }
-    ensures table { Table (IsToldAnswer (map string_bytes words.now) (host_view (H.id_of (H.fixed host)) (H.by_args (H.fixed host)) H.answer H.after (H.fixed host) (H.state host)) (W.files world.old)) result (named_in (settings_of (map string_bytes words.now))) (W.written world.old) (W.written world.new) (W.made world.old) (W.made world.new) (W.faults world.old) (W.faults world.new) (W.absent world.old) (W.absent world.new) }
+    requires calls { IsCreatable (W.told world.old).made CallStream }
+    requires vcd { IsCreatable (W.told world.old).made VcdStream }
+    ensures table { Table (IsAnswer (map string_bytes words.now) (host_view (H.id_of (H.fixed host)) (H.by_args (H.fixed host)) H.answer H.after (H.fixed host) (H.state host)) (W.told world.old).files) result (named_in (settings_of (map string_bytes words.now))) (W.told world.old) (W.told world.new) }
 {
     match settings(alloc, words) {
-        Ok(options) => run_options(alloc, world, options, host),
+        Ok(options) => run_command(alloc, world, &command_of(options), host),
         Err(WordsFault::Usage) => refuse_words(world),
         Err(WordsFault::NoMemory) => out_of_memory(world),
     }

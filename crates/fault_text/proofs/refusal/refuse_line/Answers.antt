@@ -3,7 +3,8 @@ use Rattle.std.specs.Prelude.{codes}
 use Rattle.run_status.specs.Answer.{Refuses}
 use Rattle.fault_text.proofs.refusal.refuse_line.Goals as goal
 
-pub returns-clause-told : goal.returns-clause-told
-returns-clause-told g c =
-    subst (λ (d : List ℕ). Refuses c.refuse_about.result (codes "stimulus line " ++ d ++ c.args.end.now) (g.W.World.written c.args.world.now) (g.W.World.written c.refuse_about.new.world) (g.W.World.faults c.args.world.now) (g.W.World.faults c.refuse_about.new.world))
-    (c.as_bytes-line.ensures.value ∙ c.format.ensures.text) c.refuse_about.ensures.told
+pub returns : goal.returns
+returns g c = record {
+  told = subst (λ (d : List ℕ). Refuses c.refuse_about.result (codes "stimulus line " ++ d ++ c.args.end.now) (g.W.World.told c.args.world.now) (g.W.World.told c.refuse_about.new.world))
+      (c.as_bytes-line.ensures.value ∙ c.format.ensures.text) c.refuse_about.ensures.told;
+}

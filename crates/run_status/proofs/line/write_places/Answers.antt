@@ -14,5 +14,6 @@ pub returns-in-Err-clause-err : goal.returns-in-Err-clause-err
 returns-in-Err-clause-err g c =
     let files = c.args.files.now in
     let at = get_or c.args.places.now c.loop-place.place-index nowhere in
-    let begun = subst (λ (name : List ℕ). Said Errors (listed_place name at) (g.W.World.written c.loop-place.world) (g.W.World.written c.write_place.new.world)) c.file_name.ensures c.in-Err.ensures.err in
-    texts_cut (λ (at : Origin). listed_place (get_or files at.file []) at) c.args.places.now c.loop-place.place-index nowhere (omega arith) Errors _ _ _ c.loop-place.invariant.written begun
+    let begun = subst (λ (name : List ℕ). Said Errors (listed_place name at) (g.W.World.told c.loop-place.world) (g.W.World.told c.write_place.new.world)) c.file_name.ensures c.in-Err.ensures.err in
+    texts_cut (λ (at : Origin). listed_place (get_or files at.file []) at) c.args.places.now c.loop-place.place-index nowhere (omega arith) Errors (g.W.World.told c.args.world.now) (g.W.World.told c.loop-place.world)
+    (g.W.World.told c.write_place.new.world) c.loop-place.invariant.written begun

@@ -40,5 +40,5 @@ returns-clause-tokens c =
     let past : length files ≤ c.loop-at.at = omega (arith, length-map c.args.files.now (λ (v : Vec ℕ Global). v.items), c.loop-at-test.false) in
     record {
       whole = fault_none files c.loop-at.at past c.loop-at.invariant.clean;
-      shows = tokens_all files c.loop-at.at c.loop-at.names (map (λ (t : Vec Token Global). t.items) c.loop-at.tokens.items) past c.loop-at.invariant.tokens;
+      shown = tokens_all files c.loop-at.at c.loop-at.names (map (λ (t : Vec Token Global). t.items) c.loop-at.tokens.items) past c.loop-at.invariant.tokens;
     }
