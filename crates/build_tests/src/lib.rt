@@ -8,6 +8,8 @@ mod echo;
 #[cfg(test)]
 mod models;
 #[cfg(test)]
+mod orders;
+#[cfg(test)]
 mod running;
 #[cfg(test)]
 mod texts;

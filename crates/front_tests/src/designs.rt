@@ -1,16 +1,13 @@
-//! Whole designs: their tokens are read back from their trees, and they have their scopes or their first fault.
+//! A whole design: its tokens are read back from its tree.
 
 ghost use Rattle.std.specs.Prelude.{◌<◌, length};
 ghost use Rattle.sv_tree.specs.Tokens.{AreNamed};
 
 use parse_expr::ParseFault;
 use std::alloc::Global;
-use sv_elab::elaborate;
 use sv_lex::lex;
-use sv_names::DesignFault;
 use sv_parse::parse;
 use sv_tree::{Names, SourceTree, Token, tokens_of};
-use vs_base::{Kind, Origin};
 
 // Whether a tree's tokens are these ones.
 fn reads_back(alloc: Global, tree: &SourceTree, tokens: &[Token]) -> bool {
@@ -91,109 +88,4 @@ fn a_design_is_read_back(rt: HostRuntime) {
         read(rt.alloc(), b"module m ; else"),
         Err(ParseFault::Syntax(3))
     );
-}
-
-// The paths of the scopes of a tree, each with a space after it.
-fn paths(alloc: Global, tree: &SourceTree, names: &Names) -> Result<Vec<u8>, DesignFault> {
-    let scopes = match elaborate(alloc, tree, names, None) {
-        Ok(scopes) => scopes,
-        Err(fault) => return Err(fault),
-    };
-    let mut text = Vec::new(alloc);
-    for scope in scopes.scopes.as_slice() {
-        let Ok(()) = text.extend_from_slice(scope.path.as_bytes()) else {
-            return Err(DesignFault::NoMemory);
-        };
-        let Ok(()) = text.push(b' ') else {
-            return Err(DesignFault::NoMemory);
-        };
-    }
-    Ok(text)
-}
-
-// The paths of the scopes of tokens that have a tree.
-fn laid_out(alloc: Global, tokens: &[Token], names: &Names) -> Result<Vec<u8>, DesignFault>
-    requires named { AreNamed names.now tokens.now }
-    requires few { length tokens.now < 4294967295 }
-{
-    match parse(alloc, tokens, names) {
-        Ok(tree) => paths(alloc, &tree, names),
-        Err(_) => Err(DesignFault::NoMemory),
-    }
-}
-
-// The paths of the scopes of a text that has a tree.
-fn outline(alloc: Global, text: &[u8]) -> Result<Vec<u8>, DesignFault> {
-    if text.len() > 1_000_000 {
-        return Err(DesignFault::NoMemory);
-    }
-    let Ok(mut names) = Names::new(alloc) else {
-        return Err(DesignFault::NoMemory);
-    };
-    let Ok(tokens) = lex(alloc, 0, text, &mut names) else {
-        return Err(DesignFault::NoMemory);
-    };
-    if tokens.len() > 1_000_000 {
-        return Err(DesignFault::NoMemory);
-    }
-    laid_out(alloc, tokens.as_slice(), &names)
-}
-
-#[test]
-fn a_design_has_its_scopes(rt: HostRuntime) {
-    let table = [
-        (
-            FIFO,
-            "top top.u0 top.u1 top.g[0] top.g[1] top.g[2] top.g[3] top.g[4] top.g[5] top.g[6] ",
-        ),
-        (
-            "module top(output [1:0] y); for (genvar i = 0; i < 2; i++) assign y[i] = 1; endmodule",
-            "top top.genblk1[0] top.genblk1[1] ",
-        ),
-        (
-            "module top; if (0) ; logic genblk2, genblk02; if (1) ; if (1) if (1) begin : g if (1) ; end endmodule",
-            "top top.genblk002 top.g top.g.genblk1 ",
-        ),
-        (
-            "module c; localparam W = 4; parameter A = 1, B = A + 1; if (B == 7) ; if (A == 3) begin : g end endmodule
-             module top; c a(); c #(.B(7)) b(); c #(3) d(); localparam B = 7; c #(.B) e(); endmodule",
-            "top top.a top.b top.b.genblk1 top.d top.d.g top.e top.e.genblk1 ",
-        ),
-    ];
-    for (text, want) in table {
-        match outline(rt.alloc(), text.as_bytes()) {
-            Ok(found) => assert_eq!(rt; found.as_slice(), want.as_bytes()),
-            Err(_) => assert!(rt; false),
-        }
-    }
-}
-
-// The place in the first line.
-fn at(col: u32) -> Origin {
-    Origin {
-        file: 0,
-        line: 1,
-        col,
-    }
-}
-
-#[test]
-fn a_design_has_its_first_fault(rt: HostRuntime) {
-    let table = [
-        (
-            "module top; wire y = {0{200'h0}}; endmodule",
-            DesignFault::TooWide(at(25)),
-        ),
-        (
-            "module c #(parameter P = 1) (input [0:P] a); endmodule module top; c #(2) u(.a({0{1'b1}})); endmodule",
-            DesignFault::BadRange(at(36)),
-        ),
-        (
-            "module c; endmodule module top; for (genvar i = 0; i < 4096; i++) c u(); endmodule",
-            DesignFault::TooMany(Kind::Instances),
-        ),
-    ];
-    for (text, want) in table {
-        assert!(rt; outline(rt.alloc(), text.as_bytes()) == Err(want));
-    }
 }

@@ -1,11 +1,6 @@
-//! Tables of names, symbols, and trees that are built by hand.
+//! Tables of names, and symbols.
 
-use sqlite_items::{Boxed, Items};
-use std::alloc::{AllocError, Global};
-use sv_tree::{
-    Assignment, CommaList, Description, Expr, Item, Lvalue, Module, NameId, Names, NoMemory,
-    SourceTree, Step, Symbol, Token, TokenKind, symbol_of, tokens_of,
-};
+use sv_tree::{NameId, Names, NoMemory, Symbol, Token, TokenKind, symbol_of};
 use vs_base::Origin;
 
 fn token(number: u32) -> Token {
@@ -18,80 +13,6 @@ fn token(number: u32) -> Token {
             col: 1,
         },
     }
-}
-
-/// `a + b`, with tokens from number 6 on.
-fn sum(alloc: Global) -> Result<Expr, AllocError> {
-    let left = Expr::Name {
-        name: token(6),
-        selects: Items::new(alloc),
-    };
-    let operand = Expr::Name {
-        name: token(8),
-        selects: Items::new(alloc),
-    };
-    let first = Boxed::new(alloc, left)?;
-    let mut more = Items::new(alloc);
-    more.push(Step {
-        mark: token(7),
-        operand,
-    })?;
-    Ok(Expr::Level { first, more })
-}
-
-/// `assign y = a + b;`, with tokens from number 3 on.
-fn assign(alloc: Global) -> Result<Item, AllocError> {
-    let value = sum(alloc)?;
-    let target = Lvalue::Name {
-        name: token(4),
-        selects: Items::new(alloc),
-    };
-    let first = Assignment {
-        target,
-        mark: token(5),
-        value,
-    };
-    Ok(Item::Assigns {
-        word: token(3),
-        assignments: CommaList {
-            first,
-            more: Items::new(alloc),
-        },
-        semicolon: token(9),
-    })
-}
-
-/// `module m; assign y = a + b; endmodule`
-fn source(alloc: Global) -> Result<SourceTree, AllocError> {
-    let item = assign(alloc)?;
-    let mut items = Items::new(alloc);
-    items.push(item)?;
-    let module = Module {
-        word: token(0),
-        name: token(1),
-        parameters: None,
-        ports: None,
-        semicolon: token(2),
-        items,
-        end: token(10),
-        end_label: None,
-    };
-    let mut descriptions = Items::new(alloc);
-    descriptions.push(Description::Module(module))?;
-    Ok(SourceTree { descriptions })
-}
-
-#[test]
-fn the_tokens_of_a_tree_come_in_order(rt: HostRuntime) -> Result<(), AllocError> {
-    let tree = source(rt.alloc())?;
-    let Ok(list) = tokens_of(rt.alloc(), &tree) else {
-        return Err(AllocError);
-    };
-    assert_eq!(rt; list.len(), 11);
-    for (k, token) in list.iter().enumerate() {
-        assert_eq!(rt; token.name.0 as usize, k, "a token");
-    }
-    Ok(())
 }
 
 #[test]

@@ -46,8 +46,6 @@ mod fault;
 mod graph;
 mod noted;
 mod ranges;
-#[cfg(test)]
-mod tests;
 mod writers;
 
 pub use apart::has_one_writer;

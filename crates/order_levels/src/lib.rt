@@ -55,8 +55,6 @@ mod order;
 mod running;
 mod serial;
 mod stall;
-#[cfg(test)]
-mod tests;
 
 pub use fault::{LoopFault, NodesFault};
 pub use level::levels;

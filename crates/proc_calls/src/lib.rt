@@ -24,7 +24,5 @@
 mod called;
 mod expr;
 mod stmt;
-#[cfg(test)]
-mod tests;
 
 pub use called::called_imports;

@@ -34,7 +34,5 @@
 
 mod expr;
 mod stmt;
-#[cfg(test)]
-mod tests;
 
 pub use stmt::proc_cost;

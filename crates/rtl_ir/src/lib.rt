@@ -54,8 +54,6 @@ mod design;
 mod expr;
 mod operator;
 mod stmt;
-#[cfg(test)]
-mod tests;
 mod whole;
 mod whole_fits;
 mod width;

@@ -75,8 +75,6 @@ mod range;
 mod reads;
 mod sets;
 mod shared;
-#[cfg(test)]
-mod tests;
 mod writer;
 mod writes;
 

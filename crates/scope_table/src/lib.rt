@@ -51,8 +51,6 @@
 #![tactic(auto)]
 
 mod table;
-#[cfg(test)]
-mod tests;
 
 pub use sv_tree::{NameId, NoMemory};
 pub use table::ScopeTable;

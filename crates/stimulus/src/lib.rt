@@ -46,8 +46,6 @@ mod acts;
 mod fault;
 mod inputs;
 mod number;
-#[cfg(test)]
-mod tests;
 mod words;
 
 pub use acts::read_stim;

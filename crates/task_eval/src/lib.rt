@@ -77,8 +77,6 @@ mod operate;
 mod run;
 mod stack;
 mod step;
-#[cfg(test)]
-mod tests;
 
 pub use bus::Bus;
 pub use code::Code;

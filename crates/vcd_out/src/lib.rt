@@ -59,8 +59,6 @@ mod fault;
 mod head;
 mod layout;
 mod links;
-#[cfg(test)]
-mod tests;
 mod value;
 
 pub use change::VcdBuf;

@@ -26,8 +26,6 @@ mod act;
 mod bits;
 pub mod limits;
 mod origin;
-#[cfg(test)]
-mod tests;
 mod text;
 mod types;
 

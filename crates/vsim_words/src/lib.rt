@@ -60,8 +60,6 @@ mod fault;
 mod given;
 mod options;
 mod refusals;
-#[cfg(test)]
-mod tests;
 mod values;
 mod words;
 
