@@ -4,7 +4,7 @@ A model is a class of a design with
 
     TREE            the scopes and their variables, as text: `in NAME:WIDTH`, `out NAME:WIDTH`, `NAME:WIDTH`, each perhaps with
                     ` = INIT`; `module NAME` and `begin NAME` open a scope, and what is indented more stands in it
-    EVENTS          the events of its clocked processes, as pairs of an input and `posedge` or `negedge`
+    EVENTS          the events of its clocked processes, as pairs of a variable and `posedge` or `negedge`
     settle(v)       sets all combinational variables of v from inputs and registers
     fire(v, edges)  the writes of the clocked processes that fire at these edges, as a map of variables to values; memories
                     are kept in the model, and their writes are made by `after`
@@ -149,16 +149,20 @@ class Model:
             self.v[path] = value & ((1 << self.widths[path]) - 1)
 
     def eval(self, inputs):
-        before = {name: self.v[name] for name, _ in self.EVENTS}
+        last = {name: self.v[name] if self.number else 0 for name, _ in self.EVENTS}
         self.put(inputs)
         self.settle(Values(self))
-        edges = {(name, edge) for name, edge in self.EVENTS
-                 if (before[name], self.v[name]) == ((0, 1) if edge == "posedge" else (1, 0))}
-        if edges:
+        while True:
+            now = {name: self.v[name] for name, _ in self.EVENTS}
+            edges = {(name, edge) for name, edge in self.EVENTS
+                     if (last[name], now[name]) == ((0, 1) if edge == "posedge" else (1, 0))}
+            if not edges:
+                break
             writes = self.fire(Values(self), edges)
             self.put(writes)
             self.after()
             self.settle(Values(self))
+            last = now
         outputs = [x for x in self.top.variables if x.direction == "out"]
         self.out.append(" ".join([str(self.number)] + [f"{x.name}={hexadecimal(self.v[x.path], x.width)}" for x in outputs]))
         self.number += 1
