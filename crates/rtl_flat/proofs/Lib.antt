@@ -1,4 +1,1 @@
-pub mod Facts
 pub mod Laying
-pub mod Outcomes
-pub mod Tops
