@@ -16,7 +16,10 @@ pub const DEPTH: u32 = 128;
 pub const MACRO_DEPTH: u32 = 64;
 
 /// The width of a type, a number or an expression, in bits.
-pub const WIDTH: u32 = 64;
+pub const WIDTH: u32 = 128;
+
+/// The width of a word of the model's table, in bits. What is wider stands in several words.
+pub const WORD: u32 = 64;
 
 /// The number of module instances, the top included.
 pub const INSTANCES: usize = 4_096;
