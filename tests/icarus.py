@@ -198,7 +198,7 @@ def bench_of(top, ports, events, wave):
     """A module that reads acts as numbers, one a line, and prints the outputs after each eval."""
     inputs = [(name, width) for direction, name, width in ports if direction == "input"]
     outputs = [(name, width) for direction, name, width in ports if direction == "output"]
-    lines = ["module the_bench;", "integer file, code, got, count; reg [63:0] value;"]
+    lines = ["module the_bench;", "integer file, code, got, count; reg [127:0] value;"]
     lines += [f"reg [{width - 1}:0] in_{name} = 0, next_{name} = 0;" for name, width in inputs]
     lines += [f"wire [{width - 1}:0] out_{name};" for name, width in outputs]
     links = [f".{name}(in_{name})" for name, _ in inputs] + [f".{name}(out_{name})" for name, _ in outputs]
