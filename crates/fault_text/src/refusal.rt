@@ -63,16 +63,6 @@ pub fn refuse_lexing<W: World>(world: &mut W, files: &[Text], fault: LexFault) -
     }
 }
 
-// The spelling of a name, empty where the table has no such name.
-fn text_of(names: &Names, name: NameId) -> &[u8]
-    ensures { result.now ≡ text.text_of names.now name.0 }
-{
-    if (name.0 as usize) < names.len() {
-        return names.text(name);
-    }
-    &[]
-}
-
 // Refuses by a text with a directive's name.
 fn refuse_directive<W: World>(
     world: &mut W,
@@ -89,7 +79,7 @@ fn refuse_directive<W: World>(
         files,
         at,
         start,
-        without_backquote(text_of(names, name)),
+        without_backquote(names.text_of(name)),
     )
 }
 
@@ -146,7 +136,7 @@ fn spelling_of<'a>(names: &'a Names, token: Option<Token>) -> &'a [u8]
     ensures { result.now ≡ text.spelled names.now token }
 {
     match token {
-        Some(token) => text_of(names, token.name),
+        Some(token) => names.text_of(token.name),
         None => &[],
     }
 }
@@ -214,19 +204,19 @@ pub fn refuse_design<W: World>(
         DesignFault::NoTop => refuse(world, b"no top module", b""),
         DesignFault::ManyTops => refuse(world, b"many top modules", b""),
         DesignFault::Duplicate(at, name) => {
-            refuse_place(world, files, at, b"duplicate ", text_of(names, name))
+            refuse_place(world, files, at, b"duplicate ", names.text_of(name))
         }
         DesignFault::UnknownModule(at, name) => {
-            refuse_place(world, files, at, b"unknown module ", text_of(names, name))
+            refuse_place(world, files, at, b"unknown module ", names.text_of(name))
         }
         DesignFault::SelfInstance(at) => refuse_place(world, files, at, b"instance of itself", b""),
         DesignFault::UnknownPort(at) => refuse_place(world, files, at, b"unknown port", b""),
         DesignFault::UnknownParam(at) => refuse_place(world, files, at, b"unknown parameter", b""),
         DesignFault::UnknownName(at, name) => {
-            refuse_place(world, files, at, b"unknown name ", text_of(names, name))
+            refuse_place(world, files, at, b"unknown name ", names.text_of(name))
         }
         DesignFault::WrongUse(at, name) => {
-            refuse_place(world, files, at, b"wrong use of ", text_of(names, name))
+            refuse_place(world, files, at, b"wrong use of ", names.text_of(name))
         }
         DesignFault::WrongAssign(at) => refuse_place(world, files, at, b"wrong assignment", b""),
         DesignFault::NotConstant(at) => refuse_place(world, files, at, b"not constant", b""),
@@ -234,7 +224,7 @@ pub fn refuse_design<W: World>(
         DesignFault::TooWide(at) => refuse_place(world, files, at, b"too wide", b""),
         DesignFault::BadRange(at) => refuse_place(world, files, at, b"bad range", b""),
         DesignFault::BadEvent(at, name) => {
-            refuse_place(world, files, at, b"bad event ", text_of(names, name))
+            refuse_place(world, files, at, b"bad event ", names.text_of(name))
         }
         DesignFault::LoopTurns(at) => refuse_place(world, files, at, b"too many loop turns", b""),
         DesignFault::TooMany(kind) => refuse_too_many(world, kind),

@@ -10,7 +10,7 @@ use rtl_ir::Import;
 use rtl_lower::FlatFault;
 use sqlite_items::Items;
 use std::alloc::Global;
-use sv_expr::{symbol, text_of};
+use sv_expr::symbol;
 use sv_tree::{
     Argument, CommaList, Description, GenBlock, Import as TreeImport, Item, ItemBranch, NameId,
     Names, SourceTree, Symbol, Token, WordType,
@@ -143,7 +143,7 @@ fn flat_import(alloc: Global, names: &Names, import: &TreeImport) -> Result<Impo
     if args.len() > limits::CALL_ARGUMENTS {
         return Err(FlatFault::NotElaborated);
     }
-    let name = Vec::from_slice(alloc, text_of(names, linkage_name(import)))?;
+    let name = Vec::from_slice(alloc, names.text_of(linkage_name(import).name))?;
     Ok(Import {
         name: Text::new(name),
         declared_pure: is_pure(names, import),

@@ -14,7 +14,7 @@ use rtl_lower::FlatFault;
 use sqlite_items::Items;
 use std::alloc::Global;
 use sv_elab::Scope;
-use sv_expr::{ScopeView, symbol, text_of};
+use sv_expr::{ScopeView, symbol};
 use sv_tree::{
     CommaList, Connections, DataType, Declaration, Dimension, Initial, Item, Module, Names, Port,
     Symbol, Token,
@@ -236,7 +236,7 @@ fn held_var(
     initial: &Option<Initial>,
 ) -> Result<HeldVar, FlatFault> {
     let init = initial_value(&present.inside.view(), packed, initial)?;
-    let name = copied(alloc, text_of(present.inside.names, name))?;
+    let name = copied(alloc, present.inside.names.text_of(name.name))?;
     Ok(HeldVar { name, packed, init })
 }
 
@@ -271,7 +271,7 @@ fn held_mem(
     if end > 1 << 63 {
         return Err(FlatFault::NotElaborated);
     }
-    let name = copied(alloc, text_of(present.inside.names, name))?;
+    let name = copied(alloc, present.inside.names.text_of(name.name))?;
     Ok(HeldMem {
         name,
         packed,

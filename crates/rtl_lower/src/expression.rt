@@ -15,7 +15,7 @@ use crate::number::{constant, count_of, part_width};
 use crate::operator::{binary, unary};
 use rtl_ir::{BinaryOp, Call, Class, Expr, ExprNode, Target, UnaryOp, Width};
 use sqlite_items::{Boxed, Items};
-use sv_expr::{Denoted, Fixed, symbol, text_of};
+use sv_expr::{Denoted, Fixed, symbol};
 use sv_tree::{Args, Choice, Expr as Tree, Select, Step, Symbol, Token};
 
 /// The conversion to a signed type (IEEE 1800-2017 6.24.1).
@@ -178,7 +178,7 @@ fn fixed_in(fixed: Fixed, kind: Kind) -> ExprNode
 
 /// Whether a system function gives its argument's bits, with or without a sign.
 fn is_conversion(name: Token, here: &Here<'_>) -> bool {
-    let text = text_of(here.view.names, name);
+    let text = here.view.names.text_of(name.name);
     text == SIGNED || text == UNSIGNED
 }
 

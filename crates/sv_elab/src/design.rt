@@ -11,7 +11,7 @@ use crate::walk::Walk;
 use elab_parts::{Counts, Places, Present, Stop, import_denoted, root};
 use scope_table::ScopeTable;
 use std::alloc::Global;
-use sv_expr::{Denoted, text_of};
+use sv_expr::Denoted;
 use sv_names::{DesignFault, Modules, check_names};
 use sv_tree::{Description, Module, NameId, Names, SourceTree};
 
@@ -130,7 +130,7 @@ fn with_top<'t>(
     child: ScopeTable<Denoted>,
     tables: Tables,
 ) -> Result<Walk<'t>, Stop> {
-    let path = root(alloc, text_of(present.names, top.name))?;
+    let path = root(alloc, present.names.text_of(top.name.name))?;
     let scopes = Scopes::new(alloc, path, top.name.name)?;
     let Tables {
         modules,

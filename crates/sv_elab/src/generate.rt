@@ -3,7 +3,7 @@
 use crate::walk::{End, Level, Source, Turn, Walk, add};
 use elab_parts::{Stop, constant_of, declare_body, inner, numbered_segment, turn_segment};
 use elab_types::{block_taken, start_value};
-use sv_expr::{Constant, Denoted, Fixed, text_of};
+use sv_expr::{Constant, Denoted, Fixed};
 use sv_tree::{GenBlock, Item, LoopHead};
 
 impl<'t> Walk<'t> {
@@ -180,7 +180,7 @@ impl<'t> Walk<'t> {
             ..
         } = body
         {
-            let text = text_of(self.present.names, label.name);
+            let text = self.present.names.text_of(label.name.name);
             return Ok(Vec::from_slice(self.alloc, text)?);
         }
         for zeros in 0..self.present.names.len() {

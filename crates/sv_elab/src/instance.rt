@@ -4,7 +4,7 @@ use crate::walk::{End, Level, Source, Walk, add};
 use elab_parts::{
     Head, HeadPort, List, Outer, Stop, declare_module, head_of, inner, join_ports, list_of,
 };
-use sv_expr::{Constant, Fixed, text_of};
+use sv_expr::{Constant, Fixed};
 use sv_names::module_at;
 use sv_tree::{Connections, Module, Overrides, Token};
 
@@ -102,7 +102,7 @@ impl<'t> Walk<'t> {
         values: Vec<Constant>,
     ) -> Result<u32, Stop> {
         let here = self.here();
-        let segment = text_of(self.present.names, name);
+        let segment = self.present.names.text_of(name.name);
         let path = inner(self.alloc, self.scopes.path(here), segment)?;
         self.scopes.add(here, path, false, module.name.name, values)
     }

@@ -58,4 +58,4 @@ mod walk;
 pub use expression::{const_value, expr_type, lvalue_type, own_value};
 pub use fault::WalkFault;
 pub use scope::{Constant, Declared, Denoted, Fixed, ScopeView};
-pub use spelled::{symbol, text_of};
+pub use spelled::symbol;

@@ -13,16 +13,6 @@ const CLOG2: &[u8] = b"$clog2";
 /// The conversion to a signed type (IEEE 1800-2017 6.24.1).
 const SIGNED: &[u8] = b"$signed";
 
-/// The text of a token.
-pub fn text_of(names: &Names, token: Token) -> &[u8]
-    ensures { result.now ≡ get_or names.now token.name.0 [] }
-{
-    if (token.name.0 as usize) < names.len() {
-        return names.text(token.name);
-    }
-    &[]
-}
-
 /// What a token is to the grammar.
 #[tactic(auto, unfolding(sv_tree::specs::Spelling::symbol_of), using(crate::proofs::Texts::no_text))]
 pub fn symbol(names: &Names, token: Token) -> Symbol
@@ -54,7 +44,7 @@ fn by_kind(kind: TokenKind) -> Symbol
 pub fn function_of(names: &Names, token: Token) -> Function
     ensures { result ≡ function_by_text (get_or names.now token.name.0 []) }
 {
-    let text = text_of(names, token);
+    let text = names.text_of(token.name);
     if text == CLOG2 {
         return Function::CeilingLog;
     }

@@ -25,7 +25,7 @@ use crate::lookup::{by_selects, constant_value, import_kind, whole};
 use crate::operator::{Class, class_of, compared, operated, shifted};
 use crate::prefix::{plain_count, prefixed_all, prefixed_before, prefixed_from};
 use crate::scope::ScopeView;
-use crate::spelled::{function_of, symbol, text_of};
+use crate::spelled::{function_of, symbol};
 use crate::typed::Typed;
 use sv_sem::{in_context, wider};
 use sv_tree::{Args, Choice, Expr, Names, Select, Step, Token};
@@ -64,12 +64,12 @@ pub fn typed(scope: &ScopeView<'_>, expr: &Expr) -> Typed
     ensures width { IsWidth result.kind.width }
 {
     match expr {
-        Expr::Decimal(token) => decimal_typed(token.at, text_of(scope.names, *token)),
-        Expr::Based(token) => based_typed(token.at, text_of(scope.names, *token)),
+        Expr::Decimal(token) => decimal_typed(token.at, scope.names.text_of(token.name)),
+        Expr::Based(token) => based_typed(token.at, scope.names.text_of(token.name)),
         Expr::Sized { size, digits } => sized_typed(
             size.at,
-            text_of(scope.names, *size),
-            text_of(scope.names, *digits),
+            scope.names.text_of(size.name),
+            scope.names.text_of(digits.name),
         ),
         Expr::Fill(_) => fine(BIT),
         Expr::Name { name, selects } => named_typed(scope, *name, selects.as_slice()),
@@ -239,15 +239,17 @@ pub fn valued(scope: &ScopeView<'_>, expr: &Expr, context: ValueType) -> Bits
     ensures width { result.width ≡ context.width }
 {
     match expr {
-        Expr::Decimal(token) => { decimal_value(token.at, text_of(scope.names, *token), context) }
-        Expr::Based(token) => based_value(token.at, text_of(scope.names, *token), context),
+        Expr::Decimal(token) => {
+            decimal_value(token.at, scope.names.text_of(token.name), context)
+        }
+        Expr::Based(token) => based_value(token.at, scope.names.text_of(token.name), context),
         Expr::Sized { size, digits } => sized_value(
             size.at,
-            text_of(scope.names, *size),
-            text_of(scope.names, *digits),
+            scope.names.text_of(size.name),
+            scope.names.text_of(digits.name),
             context,
         ),
-        Expr::Fill(token) => fill_value(text_of(scope.names, *token), context),
+        Expr::Fill(token) => fill_value(scope.names.text_of(token.name), context),
         Expr::Name { name, .. } => constant_value(scope, name.name, context),
         Expr::Paren { inner, .. } => valued(scope, inner.get(), context),
         Expr::Concat { first, more, .. } => {

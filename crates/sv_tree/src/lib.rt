@@ -13,7 +13,7 @@
 //! texts under the old numbers.
 //!
 //! The table is a hash set that keeps its order: one look-up for each [`Names::intern`] and
-//! [`Names::find`], constant time for [`Names::text`], and one copy of each text.
+//! [`Names::find`], constant time for [`Names::text`] and [`Names::text_of`], and one copy of each text.
 //!
 //! ```text
 //! intern "clk"  -> 0    table: clk

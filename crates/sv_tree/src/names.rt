@@ -1,4 +1,4 @@
-ghost use Rattle.std.specs.Prelude.{◌≡◌, ◌<◌, ◌≤◌, ◌^◌, [], length, slice_get, Some, IfOk, OnOk, OnErr, MatchOption};
+ghost use Rattle.std.specs.Prelude.{◌≡◌, ◌<◌, ◌≤◌, ◌^◌, [], get_or, length, slice_get, Some, IfOk, OnOk, OnErr, MatchOption};
 ghost use Rattle.sv_tree.specs.Names.{EachOnce, Interns, IsAbsent};
 
 use indexmap::IndexSet;
@@ -82,6 +82,16 @@ impl Names {
         ensures { slice_get self.now id.0 ≡ Some result.now }
     {
         self.texts.as_slice()[id.0 as usize].as_slice()
+    }
+
+    /// The text of any number: empty where the table has no such number.
+    pub fn text_of(&self, id: NameId) -> &[u8]
+        ensures { result.now ≡ get_or self.now id.0 [] }
+    {
+        if (id.0 as usize) < self.len() {
+            return self.text(id);
+        }
+        &[]
     }
 
     /// How many names the table has, each once and at most 2^32.

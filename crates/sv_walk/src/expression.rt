@@ -1,6 +1,6 @@
 //! The walk over expressions.
 
-ghost use Rattle.std.specs.Prelude.{◌≡◌, ◌||◌, [], get_or, map};
+ghost use Rattle.std.specs.Prelude.{◌≡◌, ◌||◌, [], map};
 ghost use Rattle.sv_walk.specs.Events.{events, args_events, select_events, select_part, step_part, choice_part, each, each_after_operator, operators as operator_events, is_ceiling_log, is_range};
 ghost use Rattle.sv_walk.specs.Tells.{Tells};
 
@@ -13,28 +13,18 @@ const CLOG2: &[u8] = b"$clog2";
 /// The mark of a part select both of whose ends need a constant (IEEE 1800-2017 11.5.1).
 const RANGE: &[u8] = b":";
 
-/// The text of a token. A number that the table of names does not have counts as no text.
-fn text_of(names: &Names, token: Token) -> &[u8]
-    ensures { result.now ≡ get_or names.now token.name.0 [] }
-{
-    if (token.name.0 as usize) < names.len() {
-        return names.text(token.name);
-    }
-    &[]
-}
-
 /// Whether the argument of a system function needs a constant.
 fn is_argument_constant(names: &Names, name: Token, constant: bool) -> bool
     ensures { result ≡ (constant || is_ceiling_log names.now name) }
 {
-    constant || text_of(names, name) == CLOG2
+    constant || names.text_of(name.name) == CLOG2
 }
 
 /// Whether the first expression of a part select needs a constant.
 fn is_start_constant(names: &Names, mark: Token, constant: bool) -> bool
     ensures { result ≡ (constant || is_range names.now mark) }
 {
-    constant || text_of(names, mark) == RANGE
+    constant || names.text_of(mark.name) == RANGE
 }
 
 /// An expression. `constant`: its place needs a constant.
