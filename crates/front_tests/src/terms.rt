@@ -1,11 +1,11 @@
 //! What a walk over an expression meets, and the second `default` of a `case`.
 
-use case_defaults::find_second_default;
 use parse_expr::{Source, expr};
 use parse_stmt::stmt;
 use std::alloc::Global;
 use std::test::Fail;
 use sv_lex::lex;
+use sv_names::find_second_default;
 use sv_tree::{Args, Names, Select, Token};
 use sv_walk::{Visit, first_token, visit_expr};
 

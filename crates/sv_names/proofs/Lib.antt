@@ -1,2 +1,3 @@
+mod ArmNoting
 mod Causes
 mod Noting

@@ -17,7 +17,7 @@ use Rattle.sv_tree.specs.declared.tree.source.Description.{Description}
 use Rattle.sv_tree.specs.declared.tree.source.Description.TheVariants as description
 use Rattle.sv_tree.specs.declared.tree.source.SourceTree.{SourceTree}
 use Rattle.sv_tree.specs.declared.tree.stmt.Stmt.{Stmt}
-use Rattle.case_defaults.specs.Defaults.{stmt_notes}
+use Rattle.sv_names.specs.Defaults.{stmt_notes}
 
 -- the texts of the table of names
 abbrev pub Texts : Type 0

@@ -31,8 +31,9 @@
 //! Every call is safe and ends. [`check_names`] answers `NoTop` and `ManyTops` exactly where the definitions of
 //! `specs/Candidates.antt` have no module or several that may be the top, and else the one that may. It answers
 //! `BadImport` only at the first bad import of the source, and a number only where there is none (`specs/Noted.antt`).
-//! A number comes only where no `case` has a second `default`. No fault comes that only the layout of a design can have
-//! (`specs/Cause.antt`). That the other faults come exactly where the text has them is not proved: examples show it.
+//! A number comes only where no `case` has a second `default`; [`find_second_default`] finds the first one of a statement
+//! (`specs/Defaults.antt`: of each `case` the words of its arms, in their order, with what stands in the bodies between
+//! them). No fault comes that only the layout of a design can have (`specs/Cause.antt`). That the other faults come exactly where the text has them is not proved: examples show it.
 //!
 //! # Cost
 //!
@@ -50,6 +51,7 @@ mod check;
 mod checker;
 mod class;
 mod declarations;
+mod defaults;
 mod fault;
 mod graph;
 mod imports;
@@ -67,6 +69,7 @@ mod survey;
 mod top;
 
 pub use check::check_names;
+pub use defaults::find_second_default;
 pub use fault::DesignFault;
 pub use members::{Direction, Members};
 pub use modules::{Modules, module_at};

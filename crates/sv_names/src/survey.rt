@@ -6,8 +6,8 @@ ghost use Rattle.std.specs.Prelude.{◌≡◌, map, IfOk, MatchResult, Some, Non
 ghost use Rattle.sv_names.specs.Noted as spec;
 ghost use Rattle.sv_names.specs.Noted.{Adds};
 
+use crate::defaults::find_second_default;
 use crate::imports::bad_import;
-use case_defaults::find_second_default;
 use std::alloc::Global;
 use std::marker::Model;
 use sv_tree::{

@@ -4,10 +4,10 @@ use Rattle.std.specs.Option.{is_some}
 use Rattle.sv_tree.specs.declared.tree.stmt.Arm.{Arm}
 use Rattle.sv_tree.specs.declared.token.Token.{Token}
 use Rattle.sv_tree.specs.declared.tree.stmt.Stmt.{Stmt}
-use Rattle.case_defaults.specs.Defaults.{Notes, ArmNotes, stmt_notes, branch_notes, arm_notes, arm_in_order}
-use Rattle.case_defaults.specs.DefaultLaws as law
-use Rattle.case_defaults.proofs.Noting.{noted_next, arms_next}
-use Rattle.case_defaults.proofs.defaults.+defaults.Goals as goal
+use Rattle.sv_names.specs.Defaults.{Notes, ArmNotes, stmt_notes, branch_notes, arm_notes, arm_in_order}
+use Rattle.sv_names.specs.DefaultLaws as law
+use Rattle.sv_names.proofs.ArmNoting.{noted_next, arms_next}
+use Rattle.sv_names.proofs.defaults.+defaults.Goals as goal
 
 before_or : (b : Bool) → b ≡ (b || false)
 before_or true = refl

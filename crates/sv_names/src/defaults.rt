@@ -1,10 +1,16 @@
 ghost use Rattle.std.specs.Prelude.{◌≡◌, ◌||◌, map, false};
 ghost use Rattle.std.specs.Option.{is_some};
-ghost use Rattle.case_defaults.specs.Defaults as spec;
+ghost use Rattle.sv_names.specs.Defaults as spec;
 
 use sv_tree::{Arm, Branch, Stmt, Token};
 
-/// The first word `default` that is the second one of its `case`: in this statement, where none was found before it.
+/// The first word `default` that is the second one of its `case` (IEEE 1800-2017 12.5): in this statement, where none was
+/// found before it. One walk over the statement, which takes no memory; the stack is as deep as the statement.
+///
+/// ```text
+/// case (a) 0: ; default: ; default: y = 1; endcase            the second `default`
+/// case (a) default: case (b) default: ; endcase endcase       none: one in each `case`
+/// ```
 #[cycle(defaults)]
 pub fn find_second_default(found: &mut Option<Token>, stmt: &Stmt)
     ensures { found.new ≡ spec.stmt_notes stmt.now found.old }

@@ -4,7 +4,7 @@ use Rattle.std.specs.Prelude.{◌||◌}
 use Rattle.std.specs.Option.{is_some}
 use Rattle.std.proofs.Math.Seq.{drop-cons}
 use Rattle.sv_tree.specs.declared.token.Token.{Token}
-use Rattle.case_defaults.specs.Defaults.{Notes, ArmNotes, in_order, arms_in_order, arm_in_order}
+use Rattle.sv_names.specs.Defaults.{Notes, ArmNotes, in_order, arms_in_order, arm_in_order}
 
 front : {A : Type 0} (x : A) (xs : List A) (i : ℕ) → i < length xs → x ≡ get_or xs i x → drop i xs ≡ x ∷ drop (suc i) xs
 front x xs i within is = drop-cons xs i x within ∙ ap (λ y. y ∷ drop (suc i) xs) (sym is)

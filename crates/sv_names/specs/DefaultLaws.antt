@@ -15,7 +15,7 @@ use Rattle.sv_tree.specs.declared.tree.stmt.Stmt.{Stmt}
 use Rattle.sv_tree.specs.declared.tree.stmt.Stmt.TheVariants as stmt
 use Rattle.sv_tree.specs.declared.tree.stmt.Test.{Test}
 use Rattle.sv_tree.specs.declared.tree.words.Label.{Label}
-use Rattle.case_defaults.specs.Defaults.{ArmNotes, Notes, note_arm, note_stmt, note_branch, arm_notes, stmt_notes, branch_notes}
+use Rattle.sv_names.specs.Defaults.{ArmNotes, Notes, note_arm, note_stmt, note_branch, arm_notes, stmt_notes, branch_notes}
 
 pub stmt-Empty : (t : Token) → stmt_notes (stmt.Empty t) ≡ note_stmt (Stmt-F.Empty t)
 unfolding stmt_notes

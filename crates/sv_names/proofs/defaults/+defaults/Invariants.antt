@@ -1,6 +1,6 @@
 use Rattle.std.proofs.Common.{◌≡◌, drop, map, false}
-use Rattle.case_defaults.specs.Defaults.{stmt_notes, branch_notes, arm_notes, in_order, arms_in_order}
-use Rattle.case_defaults.proofs.defaults.+defaults.Given as goal
+use Rattle.sv_names.specs.Defaults.{stmt_notes, branch_notes, arm_notes, in_order, arms_in_order}
+use Rattle.sv_names.proofs.defaults.+defaults.Given as goal
 
 abbrev pub invariant-in_statements-loop-stmt : goal.invariant-in_statements-loop-stmt
 invariant-in_statements-loop-stmt l = in_order (map stmt_notes (drop l.stmt-index l.body)) l.found ≡ in_order (map stmt_notes l.body) l.initial.found
