@@ -1,7 +1,11 @@
 //! Each call on values once or a few times.
 
 use std::test::Fail;
-use vs_base::{Act, Bits, Text, limits};
+use vs_base::{Act, Bits, Text, ValueType, assignment_context, in_context, limits, wider};
+
+fn of(width: u32, signed: bool) -> ValueType {
+    ValueType { width, signed }
+}
 
 #[test]
 fn values_keep_their_low_bits(rt: HostRuntime) {
@@ -73,4 +77,26 @@ fn texts_and_acts_are_held(rt: HostRuntime) -> Result<(), Fail> {
     assert!(rt; turns != Act::Eval);
     assert!(rt; limits::WORDS == 65_536);
     Ok(())
+}
+
+#[test]
+fn finds_the_types(rt: HostRuntime) {
+    for (a, b, operator, assigned) in [
+        (of(8, true), of(16, false), of(16, false), of(16, true)),
+        (of(16, false), of(8, true), of(16, false), of(16, false)),
+        (of(8, true), of(16, true), of(16, true), of(16, true)),
+        (of(32, true), of(1, false), of(32, false), of(32, true)),
+    ] {
+        assert_eq!(rt; wider(a, b), operator);
+        assert_eq!(rt; assignment_context(a, b.width), assigned);
+    }
+}
+
+#[test]
+fn extends_operands(rt: HostRuntime) {
+    let minus_128 = Bits::new(8, 0x80);
+    for (signed, want) in [(true, 0xff80), (false, 0x80)] {
+        let context = of(16, signed);
+        assert_eq!(rt; in_context(minus_128, context), Bits::new(16, want));
+    }
 }

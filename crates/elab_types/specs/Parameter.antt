@@ -12,7 +12,7 @@ use Rattle.sv_expr.specs.Meaning.{TypeOf, ValueOf}
 use Rattle.elab_types.specs.declared.kinds.ParameterType.{ParameterType}
 use Rattle.elab_types.specs.declared.kinds.ParameterType.TheVariants as declared
 use Rattle.elab_types.specs.Packed as packed
-use Rattle.sv_sem.specs.Types.{assigned_in, in_context}
+use Rattle.vs_base.specs.Types.{assigned_in, in_context}
 use Rattle.elab_types.specs.Value.{Valued, assigned, cut_to}
 use Rattle.elab_types.specs.Word.{is_signed}
 

@@ -11,7 +11,7 @@ use Rattle.sv_tree.specs.declared.tree.stmt.LoopStep.{LoopStep}
 use Rattle.sv_tree.specs.declared.tree.stmt.LoopStep.TheVariants as step
 use Rattle.sv_tree.specs.declared.tree.words.Setting.{Setting}
 use Rattle.sv_tree.specs.Spelling.{symbol_of}
-use Rattle.sv_sem.specs.Types.{wider, in_context}
+use Rattle.vs_base.specs.Types.{wider, in_context}
 use Rattle.sv_expr.specs.declared.fault.WalkFault.{WalkFault}
 use Rattle.sv_expr.specs.Environment.{Environment}
 use Rattle.sv_expr.specs.Meaning.{TypeOf, FirstFault, ValueOf}

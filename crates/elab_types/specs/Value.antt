@@ -3,7 +3,7 @@ use Rattle.std.specs.Prelude.{ℕ, true}
 use Rattle.vs_base.specs.declared.types.ValueType.{ValueType}
 use Rattle.vs_base.specs.Number.{Number}
 use Rattle.sv_tree.specs.declared.tree.expr.Expr.{Expr}
-use Rattle.sv_sem.specs.Types.{assigned_in, in_context}
+use Rattle.vs_base.specs.Types.{assigned_in, in_context}
 use Rattle.sv_expr.specs.declared.scope.Fixed.{Fixed}
 use Rattle.sv_expr.specs.Bound.{unsigned}
 use Rattle.sv_expr.specs.Environment.{Environment}

@@ -12,9 +12,8 @@ use crate::packed::packed_type;
 use crate::value::{assigned_value, cut};
 use crate::word::is_signed;
 use sv_expr::{Fixed, ScopeView, WalkFault, const_value, expr_type};
-use sv_sem::{assignment_context, in_context};
 use sv_tree::{DataType, Expr, Parameter};
-use vs_base::ValueType;
+use vs_base::{ValueType, assignment_context, in_context};
 
 /// The type of a parameter that is declared with one (IEEE 1800-2017 6.20.2). The fault is that of the type.
 pub fn parameter_type(scope: &ScopeView<'_>, kind: &DataType) -> Result<ParameterType, WalkFault>

@@ -10,9 +10,8 @@ ghost use Rattle.elab_types.specs.Value.{assigned, counted, cut_to, valued};
 
 use crate::value::{COUNTER, counter_value, cut};
 use sv_expr::{Fixed, ScopeView, WalkFault, const_value, expr_type, symbol};
-use sv_sem::{in_context, wider};
 use sv_tree::{Expr, LoopHead, LoopStep, Names, Setting, Symbol, Token};
-use vs_base::Bits;
+use vs_base::{Bits, in_context, wider};
 
 /// The value of a loop's variable at the start, in the scope round the loop. The fault is the first one in its
 /// expression.

@@ -7,9 +7,8 @@ ghost use Rattle.sv_expr.specs.Meaning.{FirstFault};
 ghost use Rattle.elab_types.specs.Value.{assigned, counted, cut_to, valued};
 
 use sv_expr::{Fixed, ScopeView, WalkFault, const_value, expr_type};
-use sv_sem::{assignment_context, in_context};
 use sv_tree::Expr;
-use vs_base::{Bits, ValueType};
+use vs_base::{Bits, ValueType, assignment_context, in_context};
 
 /// The type of genvars and of loop variables (IEEE 1800-2017 27.4).
 pub const COUNTER: ValueType = ValueType {

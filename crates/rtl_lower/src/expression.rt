@@ -4,7 +4,7 @@ ghost use Rattle.std.specs.Prelude.{◌≡◌, Some, IfOk, IfSome};
 ghost use Rattle.rtl_ir.specs.declared.expr.ExprNode.TheVariants as node;
 ghost use Rattle.rtl_lower.specs.Kinds.{type_of, type_in, thing_of, thing_denoted};
 ghost use Rattle.sv_expr.specs.Environment.{denotes, as_constant};
-ghost use Rattle.sv_sem.specs.Types.{in_context};
+ghost use Rattle.vs_base.specs.Types.{in_context};
 
 use crate::fault::FlatFault;
 use crate::fixed::are_fixed;

@@ -6,7 +6,7 @@ ghost use Rattle.rtl_lower.specs.Kinds.{type_of, kind_denoted};
 ghost use Rattle.sv_expr.specs.Bound.{IsWidth, bit as one_bit};
 ghost use Rattle.sv_expr.specs.Environment.{denotes, environment};
 ghost use Rattle.sv_expr.specs.Meaning.{TypeOf, FirstFault, kind_or_bit};
-ghost use Rattle.sv_sem.specs.Types as types;
+ghost use Rattle.vs_base.specs.Types as types;
 
 use crate::fault::FlatFault;
 use crate::here::Here;

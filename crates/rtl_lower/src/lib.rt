@@ -31,7 +31,7 @@
 //! # What is proved
 //!
 //! Every call is safe and ends, and every width is from 1 to the greatest one. Types are those of `sv_expr` and contexts
-//! those of `sv_sem`: [`lower`] gives an expression of the width and the sign of its context, [`assigned_value`] one of the
+//! those of `vs_base`: [`lower`] gives an expression of the width and the sign of its context, [`assigned_value`] one of the
 //! context of its assignment. A name that is a constant becomes its value in the context ([`named`]), and a target is a part of
 //! the variable or the memory that its name denotes ([`target`]). [`enter_block`] enters the scope of a turn exactly where the
 //! loop's condition holds there, and [`statement`] leaves the scopes as they were (`specs/Kinds.antt`). That what comes out means what comes in

@@ -5,7 +5,7 @@ ghost use Rattle.rtl_lower.specs.Kinds.{type_of, type_in, variable_of};
 ghost use Rattle.sv_expr.specs.Environment.{environment};
 ghost use Rattle.sv_expr.specs.Meaning.{TypeOf};
 ghost use Rattle.sv_expr.specs.Target.{TypeOfTarget};
-ghost use Rattle.sv_sem.specs.Types.{assigned_in};
+ghost use Rattle.vs_base.specs.Types.{assigned_in};
 
 use crate::expression::{lower, target};
 use crate::fault::FlatFault;

@@ -12,7 +12,7 @@ use Rattle.sv_tree.specs.declared.tree.expr.Select.{Select}
 use Rattle.sv_tree.specs.declared.tree.expr.Step.{Step}
 use Rattle.sv_expr.specs.declared.fault.WalkFault.{WalkFault}
 use Rattle.sv_expr.specs.declared.typed.Typed.{Typed}
-use Rattle.sv_sem.specs.Types.{in_context}
+use Rattle.vs_base.specs.Types.{in_context}
 use Rattle.sv_expr.specs.Bound.{IsWidth, ◌before◌, is_width, whole_part, ranged}
 use Rattle.sv_expr.specs.Literal.{nothing}
 use Rattle.sv_expr.specs.Environment.{Environment}

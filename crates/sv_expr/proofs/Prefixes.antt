@@ -10,7 +10,7 @@ use Rattle.vs_base.specs.Operators.{truth, inverted, holds_true}
 use Rattle.sv_tree.specs.declared.token.Token.{Token}
 use Rattle.sv_tree.specs.declared.symbol.Symbol.{Symbol}
 use Rattle.sv_tree.specs.declared.symbol.Symbol.TheVariants as sym
-use Rattle.sv_sem.specs.Types.{in_context}
+use Rattle.vs_base.specs.Types.{in_context}
 use Rattle.sv_expr.specs.Bound.{bit}
 use Rattle.sv_expr.specs.Operator.{is_reduction, prefixed}
 use Rattle.sv_expr.specs.Meaning.{Meaning, alone, prefix_kind, prefix_value}

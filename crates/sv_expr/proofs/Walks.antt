@@ -16,7 +16,7 @@ use Rattle.sv_expr.specs.declared.typed.Typed.{Typed}
 use Rattle.sv_expr.specs.declared.scope.Whole.{Whole}
 use Rattle.sv_expr.specs.declared.operator.Class.{Class}
 use Rattle.sv_expr.specs.declared.operator.Class.TheVariants as class
-use Rattle.sv_sem.specs.Types.{wider, wider_assoc, in_context, in_context-same}
+use Rattle.vs_base.specs.Types.{wider, wider_assoc, in_context, in_context-same}
 use Rattle.sv_expr.specs.Bound.{bit, fine, ◌before◌}
 use Rattle.sv_expr.specs.declared.scope.Fixed.{Fixed}
 use Rattle.sv_expr.specs.Environment.{Environment}

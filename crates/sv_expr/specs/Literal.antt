@@ -9,7 +9,7 @@ use Rattle.sv_lex.specs.Spelling.{Bytes, is_sign}
 use Rattle.sv_lex.specs.Number.{value, base_of}
 use Rattle.sv_expr.specs.declared.fault.WalkFault.TheVariants.{TooWide}
 use Rattle.sv_expr.specs.declared.typed.Typed.{Typed}
-use Rattle.sv_sem.specs.Types.{in_context}
+use Rattle.vs_base.specs.Types.{in_context}
 use Rattle.sv_expr.specs.Bound.{fine, refused, bounded}
 
 -- the number of decimal digits

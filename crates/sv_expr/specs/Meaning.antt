@@ -20,7 +20,7 @@ use Rattle.sv_expr.specs.declared.operator.Class.{Class}
 use Rattle.sv_expr.specs.declared.operator.Class.TheVariants as class
 use Rattle.sv_expr.specs.declared.operator.Function.{Function}
 use Rattle.sv_expr.specs.declared.operator.Function.TheVariants as function
-use Rattle.sv_sem.specs.Types.{wider, decimal_type, in_context}
+use Rattle.vs_base.specs.Types.{wider, decimal_type, in_context}
 use Rattle.sv_expr.specs.declared.scope.Fixed.{Fixed}
 use Rattle.sv_expr.specs.Environment.{Environment, text}
 use Rattle.sv_expr.specs.Bound.{bit, fine, ◌before◌, is_width, ranged, whole_part}

@@ -10,7 +10,7 @@ use Rattle.sv_expr.specs.declared.operator.Class.{Class}
 use Rattle.sv_expr.specs.declared.operator.Class.TheVariants as class
 use Rattle.sv_expr.specs.declared.operator.Function.{Function}
 use Rattle.sv_expr.specs.declared.operator.Function.TheVariants as function
-use Rattle.sv_sem.specs.Types.{wider}
+use Rattle.vs_base.specs.Types.{wider}
 use Rattle.sv_expr.specs.Bound.{bit}
 
 -- how an operator takes its operands; any mark that is none counts as an operator on both in the context

@@ -16,7 +16,7 @@ use Rattle.sv_expr.specs.declared.scope.Whole.{Whole}
 use Rattle.sv_expr.specs.declared.walk.Left.{Left}
 use Rattle.sv_expr.specs.declared.operator.Class.{Class}
 use Rattle.sv_expr.specs.declared.operator.Class.TheVariants as class
-use Rattle.sv_sem.specs.Types.{wider, in_context}
+use Rattle.vs_base.specs.Types.{wider, in_context}
 use Rattle.sv_expr.specs.Bound.{bit, unsigned, ◌before◌, is_width, whole_part, ranged}
 use Rattle.sv_expr.specs.Environment.{Environment}
 use Rattle.sv_expr.specs.Literal.{nothing}

@@ -4,7 +4,7 @@ ghost use Rattle.std.specs.Prelude.{◌≡◌, ◌+◌, ◌≤◌, ◌<ℤ◌, �
 ghost use Rattle.vs_base.specs.Number.{reading as number_reading};
 ghost use Rattle.vs_base.specs.Operators.{joined as bits_joined, repeated as times_repeated, truth as bit_of};
 ghost use Rattle.sv_tree.specs.Spelling.{symbol_of};
-ghost use Rattle.sv_sem.specs.Types.{in_context as number_in_context};
+ghost use Rattle.vs_base.specs.Types.{in_context as number_in_context};
 ghost use Rattle.sv_expr.specs.Bound.{IsWidth, is_width as is_type_width, whole_part, ranged as ranged_type};
 ghost use Rattle.sv_expr.specs.Meaning.{combined_typed, prefix_kind as prefixed_kind, system_kind, system_value as system_number, part_width};
 ghost use Rattle.sv_expr.specs.Walk.{at_width as number_at_width, joined_typed, times_number, times_parts, with_choice, with_select};
@@ -14,9 +14,8 @@ use crate::fault::WalkFault;
 use crate::operator::{Class, Function, combined, is_reduction};
 use crate::spelled::symbol;
 use crate::typed::Typed;
-use sv_sem::{in_context, wider};
 use sv_tree::{Names, Symbol, Token};
-use vs_base::{Bits, Origin, ValueType, limits};
+use vs_base::{Bits, Origin, ValueType, in_context, limits, wider};
 
 /// The type of two operands.
 pub fn combine(class: Class, a: Typed, b: Typed) -> Typed

@@ -1,5 +1,5 @@
 //! What expressions mean: the width and sign of a result, the first fault, and the value of a constant expression.
-//! The types and contexts themselves are those of `sv_sem`.
+//! The types and contexts themselves are those of `vs_base`.
 //!
 //! # Types and contexts
 //!

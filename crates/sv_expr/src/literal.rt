@@ -3,15 +3,14 @@
 ghost use Rattle.std.specs.Prelude.{◌≡◌, ◌≤◌, ◌+◌, ◌*◌, ◌%◌, ◌^◌, nat_lt, true};
 ghost use Rattle.vs_base.specs.Number.{kept};
 ghost use Rattle.sv_lex.specs.Number.{digit as digit_value, base_of as base_value, value as digits_value};
-ghost use Rattle.sv_sem.specs.Types.{in_context as number_in_context};
+ghost use Rattle.vs_base.specs.Types.{in_context as number_in_context};
 ghost use Rattle.sv_expr.specs.Bound.{IsWidth};
 ghost use Rattle.sv_expr.specs.Literal.{decimal_number, based_number, based_signed, without_size as unsized_type, of_size, literal_value as literal_number, fill_value as fill_number};
 
 use crate::bound::{bounded, fine, nothing, refused};
 use crate::fault::WalkFault;
 use crate::typed::Typed;
-use sv_sem::in_context;
-use vs_base::{Bits, Origin, ValueType};
+use vs_base::{Bits, Origin, ValueType, in_context};
 
 /// The literal that fills its context with ones.
 const ONES: &[u8] = b"'1";

@@ -9,9 +9,8 @@ ghost use Rattle.sv_expr.specs.Walk.{whole_by, by_selects as typed_by_selects};
 use crate::bound::{BIT, nothing};
 use crate::scope::{Denoted, ScopeView, Whole};
 use crate::typed::Typed;
-use sv_sem::in_context;
 use sv_tree::NameId;
-use vs_base::{Bits, ValueType};
+use vs_base::{Bits, ValueType, in_context};
 
 /// What a name denotes.
 fn denoted(scope: &ScopeView<'_>, name: NameId) -> Denoted

@@ -4,9 +4,8 @@ ghost use Rattle.std.specs.Prelude.{◌≡◌};
 ghost use Rattle.sv_expr.specs.Operator as by_mark;
 
 use crate::bound::BIT;
-use sv_sem::wider;
 use sv_tree::Symbol;
-use vs_base::{Bits, ValueType};
+use vs_base::{Bits, ValueType, wider};
 
 /// How an operator with two operands takes them (IEEE 1800-2017 table 11-21).
 #[derive(Clone, Copy, Debug, PartialEq, Eq)]

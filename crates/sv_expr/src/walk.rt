@@ -27,9 +27,8 @@ use crate::prefix::{plain_count, prefixed_all, prefixed_before, prefixed_from};
 use crate::scope::ScopeView;
 use crate::spelled::{function_of, symbol};
 use crate::typed::Typed;
-use sv_sem::{in_context, wider};
 use sv_tree::{Args, Choice, Expr, Names, Select, Step, Token};
-use vs_base::{Bits, ValueType};
+use vs_base::{Bits, ValueType, in_context, wider};
 
 /// The left side of a comparison: its type, and its value in that type or a wider one.
 #[derive(Clone, Copy)]

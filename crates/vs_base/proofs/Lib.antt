@@ -1,4 +1,5 @@
 mod NumberExamples
 mod OperatorExamples
+mod TypeExamples
 pub mod NumberLemmas
 pub mod OperatorLemmas

@@ -2,3 +2,4 @@ pub mod Number
 pub mod NumberLaws
 pub mod Operators
 pub mod OperatorLaws
+pub mod Types

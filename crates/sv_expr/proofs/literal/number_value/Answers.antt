@@ -2,7 +2,7 @@ use Rattle.std.proofs.Common.{ℕ, ap, ◌∙◌, arith}
 use Rattle.vs_base.specs.Number.{Number, kept}
 use Rattle.vs_base.specs.NumberLaws.{kept-kept}
 use Rattle.sv_lex.specs.Number.{value}
-use Rattle.sv_sem.specs.Types.{in_context}
+use Rattle.vs_base.specs.Types.{in_context}
 use Rattle.sv_expr.proofs.literal.number_value.Goals as goal
 
 pub returns : goal.returns

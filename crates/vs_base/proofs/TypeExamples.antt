@@ -2,7 +2,7 @@
 use Rattle.std.proofs.Common.{◌≡◌, true, false, refl}
 use Rattle.vs_base.specs.declared.types.ValueType.{ValueType}
 use Rattle.vs_base.specs.Number.{kept}
-use Rattle.sv_sem.specs.Types.{wider, decimal_type, assigned_in, in_context}
+use Rattle.vs_base.specs.Types.{wider, decimal_type, assigned_in, in_context}
 
 abbrev byte : ValueType
 byte = record { width = 8; signed = true }
