@@ -3,3 +3,4 @@ pub mod NumberLaws
 pub mod Operators
 pub mod OperatorLaws
 pub mod Types
+pub mod WholeNumber

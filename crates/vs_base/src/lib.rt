@@ -16,7 +16,7 @@
 //! operands of 8 bits that is assigned to 8 bits loses the carry, and `({1'b0, a} + b) >> 1` keeps it. [`wider`],
 //! [`assignment_context`] and [`in_context`] are pinned by `specs/Types.antt`.
 //!
-//! Beside them stand [`Origin`], a place in a source file; [`Text`], a list of bytes; [`Act`], one step of a
+//! Beside them stand [`Whole`], the number that a value reads; [`Origin`], a place in a source file; [`Text`], a list of bytes; [`Act`], one step of a
 //! stimulus; [`Kind`], what a limit counts; and the [`limits`] themselves.
 //!
 //! ```text
@@ -37,6 +37,7 @@ pub mod limits;
 mod origin;
 mod text;
 mod types;
+mod whole;
 
 pub use act::Act;
 pub use bits::Bits;
@@ -44,3 +45,4 @@ pub use limits::Kind;
 pub use origin::Origin;
 pub use text::Text;
 pub use types::{ValueType, assignment_context, in_context, wider};
+pub use whole::Whole;
