@@ -1,7 +1,9 @@
 //! Each call on values once or a few times.
 
 use std::test::Fail;
-use vs_base::{Act, Bits, Text, ValueType, assignment_context, in_context, limits, wider};
+use vs_base::{
+    Act, Bits, Text, ValueType, Whole, assignment_context, in_context, limits, wider,
+};
 
 fn of(width: u32, signed: bool) -> ValueType {
     ValueType { width, signed }
@@ -23,6 +25,22 @@ fn values_keep_their_low_bits(rt: HostRuntime) {
     assert_eq!(rt; Bits::new(2, 2).join(Bits::new(3, 5)), Bits::new(5, 0x15));
     assert_eq!(rt; Bits::new(3, 5).repeat(2), Bits::new(6, 0x2d));
     assert_eq!(rt; Bits::new(128, 9).clog2(), Bits::new(32, 4));
+}
+
+#[test]
+fn values_read_as_whole_numbers(rt: HostRuntime) {
+    let most = Whole::of(Bits::new(128, u128::MAX), false);
+    let least = Whole::of(Bits::new(128, 1 << 127), true);
+    let below = Whole::of(Bits::new(128, u128::MAX - 4), false);
+    assert!(rt; least.less(most));
+    assert_eq!(rt; most.in_word(), None);
+    assert_eq!(rt;
+        Whole::of(Bits::new(128, u128::MAX), true).in_word(),
+        Some(-1)
+    );
+    assert_eq!(rt; most.minus(below), 4);
+    assert_eq!(rt; least.minus(most), i64::MIN);
+    assert_eq!(rt; most.nearest(), i64::MAX);
 }
 
 #[test]

@@ -50,7 +50,7 @@ vector_alone = refl
 no_result : (kind : ValueType) → unless_void sym.Void kind ≡ None
 no_result kind = refl
 
--- ---- `[7:4]` has 4 bits from bit 4, `[0:0]` one, `[4:7]` and `[0:-1]` are no ranges, `[64:0]` is too wide
+-- ---- `[7:4]` has 4 bits from bit 4, `[0:0]` one, `[4:7]` and `[0:-1]` are no ranges, `[128:0]` is too wide
 
 from_7_to_4 : packed.of_ends (pos 7) (pos 4) false ≡ record { kind = record { width = 4; signed = false }; lsb = 4 }
 from_7_to_4 = refl
@@ -67,11 +67,11 @@ up_from_4_to_7 = refl
 below_0 : packed.ends_fault at (pos 0) (neg_ℤ (pos 1)) ≡ Some (BadRange at)
 below_0 = refl
 
-bits_64 : packed.ends_fault at (pos 63) (pos 0) ≡ None
-bits_64 = refl
+bits_128 : packed.ends_fault at (pos 127) (pos 0) ≡ None
+bits_128 = refl
 
-bits_65 : packed.ends_fault at (pos 64) (pos 0) ≡ Some (TooWide at)
-bits_65 = refl
+bits_129 : packed.ends_fault at (pos 128) (pos 0) ≡ Some (TooWide at)
+bits_129 = refl
 
 -- ---- memories: `[0:255]` and `[255:0]` have the same addresses, `[-2:1]` has four, `[0]` has none
 

@@ -8,7 +8,7 @@ ghost use Rattle.elab_types.specs.Memory as memory;
 use crate::kinds::Bounds;
 use sv_expr::{ScopeView, WalkFault, own_value};
 use sv_tree::{Dimension, Range};
-use vs_base::Origin;
+use vs_base::{Origin, Whole};
 
 /// The greatest number of elements that a memory may have.
 const ELEMENTS: i128 = 65_536;
@@ -32,13 +32,14 @@ pub fn bounds(scope: &ScopeView<'_>, dimension: &Dimension) -> Result<Bounds, Wa
 }
 
 /// The addresses from 0, so many.
-fn counted(at: Origin, count: i128) -> Result<Bounds, WalkFault>
-    requires low { neg_ℤ (pos (2 ^ 64)) ≤ℤ count }
-    requires high { count <ℤ pos (2 ^ 64) }
+fn counted(at: Origin, count: Whole) -> Result<Bounds, WalkFault>
     ensures bounds { IfOk result (λ found. memory.addresses found ≡ memory.ascending (pos 0) (count -ℤ pos 1)) }
     ensures fault { fault_in result ≡ memory.ends_fault at (pos 0) (count -ℤ pos 1) }
 {
-    ascending(at, 0, count - 1)
+    let Some(count) = count.in_word() else {
+        return Err(WalkFault::BadRange(at));
+    };
+    ascending(at, 0, i128::from(count) - 1)
 }
 
 /// The addresses from the lesser end of a range to the greater.
@@ -54,10 +55,24 @@ fn between(scope: &ScopeView<'_>, range: &Range) -> Result<Bounds, WalkFault>
         Ok(right) => right,
         Err(fault) => return Err(fault),
     };
+    of_ends(range.open.at, left, right)
+}
+
+/// The addresses from the lesser of two to the greater.
+fn of_ends(at: Origin, left: Whole, right: Whole) -> Result<Bounds, WalkFault>
+    ensures bounds { IfOk result (λ found. memory.addresses found ≡ memory.ascending (memory.lesser left right) (memory.greater left right)) }
+    ensures fault { fault_in result ≡ memory.ends_fault at (memory.lesser left right) (memory.greater left right) }
+{
+    let Some(left) = left.in_word() else {
+        return Err(WalkFault::BadRange(at));
+    };
+    let Some(right) = right.in_word() else {
+        return Err(WalkFault::BadRange(at));
+    };
     if left < right {
-        return ascending(range.open.at, left, right);
+        return ascending(at, i128::from(left), i128::from(right));
     }
-    ascending(range.open.at, right, left)
+    ascending(at, i128::from(right), i128::from(left))
 }
 
 /// The addresses from one to another that is none below it but for no element at all.

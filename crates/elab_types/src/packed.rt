@@ -1,6 +1,6 @@
 //! The types of declarations.
 
-ghost use Rattle.std.specs.Prelude.{◌≡◌, ◌≤ℤ◌, ◌<ℤ◌, ◌^◌, pos, neg_ℤ, IfOk};
+ghost use Rattle.std.specs.Prelude.{◌≡◌, ◌≤ℤ◌, ◌<ℤ◌, ◌⊎◌, ◌^◌, pos, IfOk, MatchOption};
 ghost use Rattle.sv_expr.specs.Bound.{IsWidth, fault_in};
 ghost use Rattle.sv_expr.specs.Environment.{environment};
 ghost use Rattle.elab_types.specs.Packed as packed;
@@ -9,7 +9,7 @@ use crate::kinds::Packed;
 use crate::word::{has_sign, is_signed, word_kind};
 use sv_expr::{ScopeView, WalkFault, own_value};
 use sv_tree::{DataType, Range};
-use vs_base::{Origin, ValueType, limits};
+use vs_base::{Origin, ValueType, Whole, limits};
 
 /// One bit.
 pub fn one_bit(signed: bool) -> Packed
@@ -76,32 +76,38 @@ fn ranged(scope: &ScopeView<'_>, range: &Range, signed: bool) -> Result<Packed, 
 }
 
 /// The bits from the right end to the left end of a range.
-fn of_ends(at: Origin, left: i128, right: i128, signed: bool) -> Result<Packed, WalkFault>
-    requires left_low { neg_ℤ (pos (2 ^ 64)) ≤ℤ left }
-    requires left_high { left <ℤ pos (2 ^ 64) }
-    requires right_low { neg_ℤ (pos (2 ^ 64)) ≤ℤ right }
-    requires right_high { right <ℤ pos (2 ^ 64) }
+fn of_ends(at: Origin, left: Whole, right: Whole, signed: bool) -> Result<Packed, WalkFault>
     ensures kind { IfOk result (λ found. packed.shape found ≡ packed.of_ends left right signed) }
     ensures fault { fault_in result ≡ packed.ends_fault at left right }
 {
-    if left < right {
+    if left.less(right) {
         return Err(WalkFault::BadRange(at));
     }
-    if right < 0 {
+    let Some(lsb) = index_of(right) else {
         return Err(WalkFault::BadRange(at));
-    }
-    if right >= 1 << 32 {
-        return Err(WalkFault::BadRange(at));
-    }
-    let bits = left - right + 1;
-    if bits > i128::from(limits::WIDTH) {
+    };
+    let above = left.minus(right);
+    if above >= i64::from(limits::WIDTH) {
         return Err(WalkFault::TooWide(at));
     }
     Ok(Packed {
         kind: ValueType {
-            width: bits as u32,
+            width: above as u32 + 1,
             signed,
         },
-        lsb: right as u32,
+        lsb,
     })
+}
+
+/// The number, where it is an index that a declaration may have: from 0 to 2^32 - 1.
+fn index_of(number: Whole) -> Option<u32>
+    ensures { MatchOption result ((number <ℤ pos 0) ⊎ (pos (2 ^ 32) ≤ℤ number)) (λ index. number ≡ pos index) }
+{
+    let Some(word) = number.in_word() else {
+        return None;
+    };
+    match u32::try_from(word) {
+        Ok(index) => Some(index),
+        Err(_) => None,
+    }
 }

@@ -27,7 +27,7 @@ enum Ask {
 enum Answer {
     Type(u32, bool),
     Value(u128),
-    Own(i128),
+    Own(i64),
     TooWide(u32),
     BadRange(u32),
     NotRead,
@@ -60,7 +60,7 @@ fn value_of(scope: &ScopeView<'_>, tree: &Expr) -> Answer {
 
 fn own_of(scope: &ScopeView<'_>, tree: &Expr) -> Answer {
     match own_value(scope, tree) {
-        Ok(value) => Answer::Own(value),
+        Ok(value) => Answer::Own(value.nearest()),
         Err(fault) => refused(fault),
     }
 }
@@ -159,12 +159,46 @@ fn types_and_values_are_those_of_the_standard(rt: HostRuntime) -> Result<(), Fai
         (Ask::Value, "3 && 2 && 0", Answer::Value(0)),
         (Ask::Value, "0 || 2 || 0", Answer::Value(1)),
         (Ask::Value, "~&3'b101 ? 3'sb101 : 8'h0", Answer::Value(5)),
-        (Ask::Value, "{22{3'b1}}", Answer::TooWide(1)),
+        (Ask::Value, "{43{3'b1}}", Answer::TooWide(1)),
         (Ask::Value, "{0{200'b1}}", Answer::TooWide(4)),
         (Ask::Own, "-7 / 2", Answer::Own(-3)),
         (Ask::Own, "-8'sd128 / -8'sd1", Answer::Own(-128)),
-        (Ask::Target, "{v, v, v, v}", Answer::Type(64, false)),
-        (Ask::Target, "{v, v, v, v, v}", Answer::TooWide(1)),
+        (
+            Ask::Type,
+            "v[128'h8000_0000_0000_0000_0000_0000_0000_0003:128'h8000_0000_0000_0000_0000_0000_0000_0000]",
+            Answer::Type(4, false),
+        ),
+        (
+            Ask::Type,
+            "v[128'hffff_ffff_ffff_ffff_ffff_ffff_ffff_ffff:-1]",
+            Answer::TooWide(2),
+        ),
+        (
+            Ask::Type,
+            "v[0:128'h8000_0000_0000_0000_0000_0000_0000_0000]",
+            Answer::BadRange(2),
+        ),
+        (Ask::Type, "{128{1'b1}}", Answer::Type(128, false)),
+        (
+            Ask::Type,
+            "{128'h1_0000_0000_0000_0001{1'b1}}",
+            Answer::TooWide(1),
+        ),
+        (
+            Ask::Own,
+            "$signed(128'hffff_ffff_ffff_ffff_ffff_ffff_ffff_fffe) / 2",
+            Answer::Own(-1),
+        ),
+        (
+            Ask::Target,
+            "{v, v, v, v, v, v, v, v}",
+            Answer::Type(128, false),
+        ),
+        (
+            Ask::Target,
+            "{v, v, v, v, v, v, v, v, v}",
+            Answer::TooWide(1),
+        ),
     ];
     for (ask, text, want) in table {
         assert_eq!(rt; asked(rt.alloc(), text, ask)?, want, "{text}");

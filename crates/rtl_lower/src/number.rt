@@ -1,6 +1,6 @@
 //! Numbers that constant expressions give.
 
-ghost use Rattle.std.specs.Prelude.{◌≡◌, ◌^◌, ◌≤ℤ◌, ◌<ℤ◌, neg_ℤ, pos, IfOk};
+ghost use Rattle.std.specs.Prelude.{◌≡◌, pos, IfOk};
 ghost use Rattle.rtl_lower.specs.Kinds.{type_of};
 ghost use Rattle.sv_expr.specs.Environment.{environment};
 ghost use Rattle.sv_expr.specs.Meaning.{ValueOf, OwnReadingOf, part_width as part_bits};
@@ -11,7 +11,7 @@ use crate::kind::Kind;
 use rtl_ir::Width;
 use sv_expr::{const_value, own_value};
 use sv_tree::{Expr, Symbol};
-use vs_base::{Bits, limits};
+use vs_base::{Bits, Whole, limits};
 
 /// The value of a constant expression in a context.
 pub fn constant(expr: &Expr, here: &Here<'_>, kind: Kind) -> Result<Bits, FlatFault>
@@ -24,10 +24,8 @@ pub fn constant(expr: &Expr, here: &Here<'_>, kind: Kind) -> Result<Bits, FlatFa
 }
 
 /// The value of a constant expression, read with its own sign.
-fn number(expr: &Expr, here: &Here<'_>) -> Result<i128, FlatFault>
-    ensures value { IfOk result (λ value. value ≡ OwnReadingOf (environment here.now.view) expr.now) }
-    ensures low { IfOk result (λ value. neg_ℤ (pos (2 ^ 64)) ≤ℤ value) }
-    ensures high { IfOk result (λ value. value <ℤ pos (2 ^ 64)) }
+fn number(expr: &Expr, here: &Here<'_>) -> Result<Whole, FlatFault>
+    ensures { IfOk result (λ value. value ≡ OwnReadingOf (environment here.now.view) expr.now) }
 {
     match own_value(&here.view, expr) {
         Ok(value) => Ok(value),
@@ -39,7 +37,9 @@ fn number(expr: &Expr, here: &Here<'_>) -> Result<i128, FlatFault>
 pub fn count_of(expr: &Expr, here: &Here<'_>) -> Result<u32, FlatFault>
     ensures { IfOk result (λ count. pos count ≡ OwnReadingOf (environment here.now.view) expr.now) }
 {
-    let count = number(expr, here)?;
+    let Some(count) = number(expr, here)?.in_word() else {
+        return Err(FlatFault::NotElaborated);
+    };
     match u32::try_from(count) {
         Ok(count) => Ok(count),
         Err(_) => Err(FlatFault::NotElaborated),
@@ -52,10 +52,10 @@ pub fn part_width(mark: Symbol, from: &Expr, to: &Expr, here: &Here<'_>) -> Resu
 {
     let to = number(to, here)?;
     if !matches!(mark, Symbol::Colon) {
-        return width_of(to);
+        return width_of(i128::from(to.nearest()));
     }
     let from = number(from, here)?;
-    width_of(from - to + 1)
+    width_of(i128::from(from.minus(to)) + 1)
 }
 
 /// So many bits.

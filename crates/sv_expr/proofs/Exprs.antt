@@ -47,7 +47,7 @@ module _ (env : Environment) where
 
   width_is : (m : Meaning) (more : List Step) → IsWidth m.typed.kind.width → (steps_joined env m.typed more).kind.width ≡ min (parts_width m (map (operand_of env) more)) (2 ^ 32 - 1)
   width_is m more small =
-      let most : m.typed.kind.width ≤ 64 = small.most in
+      let most : m.typed.kind.width ≤ 128 = small.most in
       parts_width_is env m.typed more (omega arith) ∙ ap (λ (w : ℕ). min (m.typed.kind.width + w) (2 ^ 32 - 1)) (steps_width_is env more)
 
   pub concatenated_typed : (brace : Token) (earlier : Option WalkFault) (count : ℤ) (m : Meaning) (more : List Step) → IsWidth m.typed.kind.width
@@ -64,9 +64,9 @@ module _ (env : Environment) where
       ap (λ (w : ℕ). is_width (whole_part (count *ℤ pos w))) (width_is m more small) ∙ width_capped count (parts_width m (map (operand_of env) more))
 
   pub parts_fit : (count : ℤ) (m : Meaning) (more : List Step) → IsWidth m.typed.kind.width
-      → is_width (whole_part (count *ℤ pos (steps_joined env m.typed more).kind.width)) ≡ true → m.typed.kind.width + steps_width env more ≤ 64
+      → is_width (whole_part (count *ℤ pos (steps_joined env m.typed more).kind.width)) ≡ true → m.typed.kind.width + steps_width env more ≤ 128
   parts_fit count m more small within =
-      let wide : parts_width m (map (operand_of env) more) ≤ 64 = (counts count (parts_width m (map (operand_of env) more)) (sym (fits_is count m more small) ∙ within)).wide in
+      let wide : parts_width m (map (operand_of env) more) ≤ 128 = (counts count (parts_width m (map (operand_of env) more)) (sym (fits_is count m more small) ∙ within)).wide in
       let same : steps_width env more ≡ _ = steps_width_is env more in
       omega arith
 
@@ -81,8 +81,8 @@ module _ (env : Environment) where
           → times_number count (steps_joined env m.typed more).kind.width n context ≡ (concatenated brace earlier count m (map (operand_of env) more)).value context
       by true within =
           let value : Number = in_context (repeated (whole_part count) (parts_value m (map (operand_of env) more))) context in
-          let fit : m.typed.kind.width + steps_width env more ≤ 64 = parts_fit count m more small within in
-          let together : (alone m).width + steps_width env more ≤ 64 = omega arith in
+          let fit : m.typed.kind.width + steps_width env more ≤ 128 = parts_fit count m more small within in
+          let together : (alone m).width + steps_width env more ≤ 128 = omega arith in
           ap (λ b. cond b (in_context (repeated (whole_part count) n) context) (nothing context)) within
           ∙ ap (λ (k : Number). in_context (repeated (whole_part count) k) context) (joins.value together ∙ parts_value_is env (alone m) more)
           ∙ ap (λ b. cond b value (nothing context)) (sym within ∙ fits_is count m more small)
@@ -108,8 +108,8 @@ module _ (env : Environment) where
   pub parts_whole : (count : ℤ) (m : Meaning) (more : List Step) (n : Number) → IsWidth m.typed.kind.width → (alone m).width ≡ m.typed.kind.width → Joins env (alone m) more more n
       → is_width (whole_part (count *ℤ pos (steps_joined env m.typed more).kind.width)) ≡ true → n.width ≡ (steps_joined env m.typed more).kind.width
   parts_whole count m more n small own joins within =
-      let fit : m.typed.kind.width + steps_width env more ≤ 64 = parts_fit count m more small within in
-      let together : (alone m).width + steps_width env more ≤ 64 = omega arith in
+      let fit : m.typed.kind.width + steps_width env more ≤ 128 = parts_fit count m more small within in
+      let together : (alone m).width + steps_width env more ≤ 128 = omega arith in
       let wide : n.width ≡ (alone m).width + steps_width env more = joins.width together in
       let same : steps_width env more ≡ _ = steps_width_is env more in
       let counted : (steps_joined env m.typed more).kind.width ≡ min (parts_width m (map (operand_of env) more)) (2 ^ 32 - 1) = width_is m more small in
@@ -150,7 +150,7 @@ module _ (env : Environment) where
         ap (λ (k : Number). k.width) (now h) ∙ omega arith;
   }
     where
-      now : first.width + steps_width env more ≤ 64 → next ≡ joined n part
+      now : first.width + steps_width env more ≤ 128 → next ≡ joined n part
       now h =
           let own : n.width ≡ first.width + steps_width env (take i more) = sofar.width h in
           let grown : steps_width env (take (i + 1) more) ≡ steps_width env (take i more) + (meaning_of env s.operand).typed.kind.width = steps_width_next more i s less is in

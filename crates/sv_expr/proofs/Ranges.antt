@@ -12,13 +12,13 @@ use Rattle.sv_expr.specs.Bound.{is_width, whole_part, ranged, refused, unsigned}
 
 -- ---- a width that is counted up to a bound
 
--- what is more than 64 bits
-pub too_wide : (at : Origin) (earlier : Option WalkFault) (n : ℕ) → 64 < n → ranged at earlier (pos n) ≡ refused earlier (TooWide at)
+-- what is more than 128 bits
+pub too_wide : (at : Origin) (earlier : Option WalkFault) (n : ℕ) → 128 < n → ranged at earlier (pos n) ≡ refused earlier (TooWide at)
 too_wide at earlier n wide =
     let some : nat_le (suc n) 1 ≡ false = grind arith in
-    let most : nat_le n 64 ≡ false = grind arith in
+    let most : nat_le n 128 ≡ false = grind arith in
     let good : Typed = record { kind = unsigned n; fault = earlier } in
-    ap (λ b. cond b (refused earlier (BadRange at)) (cond (nat_le 1 n && nat_le n 64) good (refused earlier (TooWide at)))) some
+    ap (λ b. cond b (refused earlier (BadRange at)) (cond (nat_le 1 n && nat_le n 128) good (refused earlier (TooWide at)))) some
     ∙ ap (λ b. cond (nat_le 1 n && b) good (refused earlier (TooWide at))) most
     ∙ never (nat_le 1 n) good (refused earlier (TooWide at))
   where
@@ -26,18 +26,18 @@ too_wide at earlier n wide =
     never true x y = refl
     never false x y = refl
 
-pub no_width : (n : ℕ) → 64 < n → is_width n ≡ false
-no_width n wide = (let most : nat_le n 64 ≡ false = grind arith in ap (λ b. nat_le 1 n && b) most ∙ never (nat_le 1 n))
+pub no_width : (n : ℕ) → 128 < n → is_width n ≡ false
+no_width n wide = (let most : nat_le n 128 ≡ false = grind arith in ap (λ b. nat_le 1 n && b) most ∙ never (nat_le 1 n))
   where
     never : (b : Bool) → (b && false) ≡ false
     never true = refl
     never false = refl
 
-bad_range : (at : Origin) (earlier : Option WalkFault) (n : ℕ) → ranged at earlier (neg_ℤ (pos n)) ≡ refused earlier (BadRange at)
+pub bad_range : (at : Origin) (earlier : Option WalkFault) (n : ℕ) → ranged at earlier (neg_ℤ (pos n)) ≡ refused earlier (BadRange at)
 bad_range at earlier zero = refl
 bad_range at earlier (suc n) = refl
 
-bad_width : (n : ℕ) → is_width (whole_part (neg_ℤ (pos n))) ≡ false
+pub bad_width : (n : ℕ) → is_width (whole_part (neg_ℤ (pos n))) ≡ false
 bad_width zero = refl
 bad_width (suc n) = refl
 
@@ -78,14 +78,14 @@ width_capped (pos (suc k)) w = elim (cases_lt w (2 ^ 32)) [ inl low ↦ same low
 pub record Counts (count : ℤ) (w : ℕ) : Type 0 where
   pub some : 1 ≤ whole_part count
   pub is : count ≡ pos (whole_part count)
-  pub most : whole_part count * w ≤ 64
-  pub wide : w ≤ 64
-  pub few : whole_part count ≤ 64
+  pub most : whole_part count * w ≤ 128
+  pub wide : w ≤ 128
+  pub few : whole_part count ≤ 128
 
 width_some : (n : ℕ) → is_width n ≡ true → 1 ≤ n
 width_some n h = grind arith
 
-width_most : (n : ℕ) → is_width n ≡ true → n ≤ 64
+width_most : (n : ℕ) → is_width n ≡ true → n ≤ 128
 width_most n h = grind arith
 
 pub counts : (count : ℤ) (w : ℕ) → is_width (whole_part (count *ℤ pos w)) ≡ true → Counts count w
@@ -93,7 +93,7 @@ counts (negsuc n) w h = absurd (let none : false ≡ true = sym (bad_width (suc 
 counts (pos zero) w h = absurd (let some : 1 ≤ 0 * w = width_some (0 * w) h in omega arith)
 counts (pos (suc k)) zero h = absurd (let some : 1 ≤ suc k * 0 = width_some (suc k * 0) h in omega arith)
 counts (pos (suc k)) (suc w) h =
-    let most : suc k * suc w ≤ 64 = width_most (suc k * suc w) h in
+    let most : suc k * suc w ≤ 128 = width_most (suc k * suc w) h in
     let wide : suc w ≤ suc k * suc w = more k (suc w) in
     let few : suc k ≤ suc k * suc w = grind arith in
     record { some = omega arith; is = refl; most = most; wide = omega arith; few = omega arith }

@@ -14,7 +14,7 @@ use Rattle.sv_expr.specs.TargetLaws.{target_step-roll}
 use Rattle.sv_expr.specs.Walk.{joined_typed}
 use Rattle.sv_expr.proofs.Ranges.{no_width}
 
-bounded_over : (at : Origin) (earlier : Option WalkFault) (w : ℕ) → 64 < w → bounded at earlier (unsigned w) ≡ refused earlier (TooWide at)
+bounded_over : (at : Origin) (earlier : Option WalkFault) (w : ℕ) → 128 < w → bounded at earlier (unsigned w) ≡ refused earlier (TooWide at)
 bounded_over at earlier w wide =
     let good : Typed = record { kind = unsigned w; fault = earlier } in
     let over : Typed = refused earlier (TooWide at) in
@@ -63,7 +63,7 @@ module _ (env : Environment) where
       → bounded at (targets_joined env t more).fault (unsigned (targets_joined env t more).kind.width)
       ≡ bounded at (first_fault t.fault (map (step_typed env) more)) (unsigned (t.kind.width + total_width (map (step_typed env) more)))
   concat_is at t more small =
-      let most : t.kind.width ≤ 64 = small.most in
+      let most : t.kind.width ≤ 128 = small.most in
       let kind : ℕ = (targets_joined env t more).kind.width in
       ap (λ (f : Option WalkFault). bounded at f (unsigned kind)) (fault_is t more)
       ∙ ap (λ (w : ℕ). bounded at (first_fault t.fault (map (step_typed env) more)) (unsigned w)) (width_is t more (omega arith))

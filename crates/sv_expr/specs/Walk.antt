@@ -128,10 +128,10 @@ module _ (env : Environment) where
   abbrev pub steps_value : Number → List Step → Number
   steps_value first more = fold (λ n s. joined n (alone (meaning_of env s.operand))) first more
 
-  -- of parts that are at most 64 bits together, these are joined
+  -- of parts that are at most 128 bits together, these are joined
   pub record Joins (first : Number) (more done : List Step) (n : Number) : Type 0 where
-    pub value : first.width + steps_width more ≤ 64 → n ≡ steps_value first done
-    pub width : first.width + steps_width more ≤ 64 → n.width ≡ first.width + steps_width done
+    pub value : first.width + steps_width more ≤ 128 → n ≡ steps_value first done
+    pub width : first.width + steps_width more ≤ 128 → n.width ≡ first.width + steps_width done
 
   -- the value of the first choice whose test holds
   abbrev pub first_chosen : ValueType → List Choice → Option Number

@@ -1,7 +1,8 @@
 //! How the types and values of parts make those of the whole.
 
-ghost use Rattle.std.specs.Prelude.{◌≡◌, ◌+◌, ◌≤◌, ◌<ℤ◌, ◌≤ℤ◌, pos, neg_ℤ, ◌*ℤ◌, ◌^◌, map, true, None};
+ghost use Rattle.std.specs.Prelude.{◌≡◌, ◌+◌, ◌≤◌, ◌≤ℤ◌, ◌×◌, pos, ◌+ℤ◌, ◌-ℤ◌, ◌*ℤ◌, map, true, None};
 ghost use Rattle.vs_base.specs.Number.{reading as number_reading};
+ghost use Rattle.vs_base.specs.WholeNumber.{nearest};
 ghost use Rattle.vs_base.specs.Operators.{joined as bits_joined, repeated as times_repeated, truth as bit_of};
 ghost use Rattle.sv_tree.specs.Spelling.{symbol_of};
 ghost use Rattle.vs_base.specs.Types.{in_context as number_in_context};
@@ -15,7 +16,7 @@ use crate::operator::{Class, Function, combined, is_reduction};
 use crate::spelled::symbol;
 use crate::typed::Typed;
 use sv_tree::{Names, Symbol, Token};
-use vs_base::{Bits, Origin, ValueType, in_context, limits, wider};
+use vs_base::{Bits, Origin, ValueType, Whole, in_context, limits, wider};
 
 /// The type of two operands.
 pub fn combine(class: Class, a: Typed, b: Typed) -> Typed
@@ -113,7 +114,7 @@ pub fn system_value(function: Function, arg: Bits) -> Bits
     }
 }
 
-/// A value of at most 64 bits, whether it is read with a sign, and the first fault of its expression.
+/// A value, whether it is read with a sign, and the first fault of its expression.
 #[derive(Clone, Copy)]
 pub struct Own {
     pub value: Bits,
@@ -125,7 +126,6 @@ pub struct Own {
 pub fn once() -> Own
     ensures reading { number_reading result.signed result.value ≡ pos 1 }
     ensures fault { result.fault ≡ None }
-    ensures narrow { result.value.width ≤ 64 }
 {
     Own {
         value: Bits::new(1, 1),
@@ -134,17 +134,11 @@ pub fn once() -> Own
     }
 }
 
-/// A number of at most 64 bits, read with or without a sign.
-pub fn reading(value: Bits, signed: bool) -> i128
-    requires { value.width ≤ 64 }
-    ensures value { result ≡ number_reading signed value }
-    ensures low { neg_ℤ (pos (2 ^ 64)) ≤ℤ result }
-    ensures high { result <ℤ pos (2 ^ 64) }
+/// The number that a value reads, with its own sign.
+fn reading(own: &Own) -> Whole
+    ensures { result ≡ number_reading own.now.signed own.now.value }
 {
-    if signed {
-        return value.signed_of();
-    }
-    value.value() as i128
+    Whole::of(own.value, own.signed)
 }
 
 /// The type of a part select, of the values of its ends.
@@ -155,57 +149,62 @@ pub fn part_typed(
     from: &Own,
     to: &Own,
 ) -> Typed
-    requires from { from.now.value.width ≤ 64 }
-    requires to { to.now.value.width ≤ 64 }
     ensures typed { result ≡ ranged_type at earlier (part_width mark (number_reading from.now.signed from.now.value) (number_reading to.now.signed to.now.value)) }
     ensures width { IsWidth result.kind.width }
 {
-    let from_reads = reading(from.value, from.signed);
-    let to_reads = reading(to.value, to.signed);
-    let bits = part_bits(mark, from_reads, to_reads);
-    ranged(at, earlier, bits)
-}
-
-/// The type of so many times a width.
-pub fn times_typed(at: Origin, earlier: Option<WalkFault>, count: &Own, width: u32) -> Typed
-    requires { count.now.value.width ≤ 64 }
-    ensures typed { result ≡ ranged_type at earlier (number_reading count.now.signed count.now.value *ℤ pos width) }
-    ensures width { IsWidth result.kind.width }
-{
-    let bits = times(reading(count.value, count.signed), width);
-    ranged(at, earlier, bits)
-}
-
-/// Whether a type may have so many times a width.
-fn times_fits(count: &Own, width: u32) -> bool
-    requires { count.now.value.width ≤ 64 }
-    ensures { result ≡ is_type_width (whole_part (number_reading count.now.signed count.now.value *ℤ pos width)) }
-{
-    let bits = times(reading(count.value, count.signed), width);
-    1 <= bits && bits <= i128::from(limits::WIDTH)
-}
-
-/// How many bits a part select has, of the readings of its ends.
-fn part_bits(mark: Symbol, from: i128, to: i128) -> i128
-    requires from_low { neg_ℤ (pos (2 ^ 64)) ≤ℤ from }
-    requires from_high { from <ℤ pos (2 ^ 64) }
-    requires to_low { neg_ℤ (pos (2 ^ 64)) ≤ℤ to }
-    requires to_high { to <ℤ pos (2 ^ 64) }
-    ensures { result ≡ part_width mark from to }
-{
     match mark {
-        Symbol::Colon => from - to + 1,
-        _ => to,
+        Symbol::Colon => down_typed(at, earlier, reading(from), reading(to)),
+        _ => counted_typed(at, earlier, reading(to)),
     }
 }
 
-/// How many bits so many times a width are.
-fn times(count: i128, width: u32) -> i128
-    requires low { neg_ℤ (pos (2 ^ 64)) ≤ℤ count }
-    requires high { count <ℤ pos (2 ^ 64) }
-    ensures { result ≡ count *ℤ pos width }
+/// The type of the bits from one index down to another.
+#[tactic(auto, using(crate::proofs::Nearest::down_near))]
+fn down_typed(at: Origin, earlier: Option<WalkFault>, from: Whole, to: Whole) -> Typed
+    ensures typed { result ≡ ranged_type at earlier ((from -ℤ to) +ℤ pos 1) }
+    ensures width { IsWidth result.kind.width }
 {
-    count * i128::from(width)
+    ranged(at, earlier, i128::from(from.minus(to)) + 1)
+}
+
+/// The type of so many bits.
+#[tactic(auto, using(crate::proofs::Nearest::count_near))]
+fn counted_typed(at: Origin, earlier: Option<WalkFault>, count: Whole) -> Typed
+    ensures typed { result ≡ ranged_type at earlier count }
+    ensures width { IsWidth result.kind.width }
+{
+    ranged(at, earlier, i128::from(count.nearest()))
+}
+
+/// The type of so many times a width.
+#[tactic(auto, using(crate::proofs::Nearest::times_near))]
+pub fn times_typed(at: Origin, earlier: Option<WalkFault>, count: &Own, width: u32) -> Typed
+    ensures typed { result ≡ ranged_type at earlier (number_reading count.now.signed count.now.value *ℤ pos width) }
+    ensures width { IsWidth result.kind.width }
+{
+    ranged(at, earlier, times(reading(count), width))
+}
+
+/// Whether a type may have so many times a width.
+#[tactic(auto, using(crate::proofs::Nearest::fits_near))]
+fn times_fits(count: &Own, width: u32) -> bool
+    ensures { result ≡ is_type_width (whole_part (number_reading count.now.signed count.now.value *ℤ pos width)) }
+{
+    is_times_width(times(reading(count), width))
+}
+
+/// Whether a type may have so many bits.
+fn is_times_width(bits: i128) -> bool
+    ensures { result ≡ is_type_width (whole_part bits) }
+{
+    1 <= bits && bits <= i128::from(limits::WIDTH)
+}
+
+/// How many bits so many times a width are; a count of more than 63 bits is taken as the nearest one of these.
+fn times(count: Whole, width: u32) -> i128
+    ensures { result ≡ nearest count *ℤ pos width }
+{
+    i128::from(count.nearest()) * i128::from(width)
 }
 
 /// The bits of both, those of `low` below. Where they are more than 128 together, `high` alone.
@@ -219,21 +218,26 @@ pub fn joined(high: Bits, low: Bits) -> Bits
 }
 
 /// So many times the bits, in a context; together they are a width that a type may have.
+#[tactic(auto, using(crate::proofs::Ranges::counts))]
 fn repeated(value: Bits, count: &Own, context: ValueType) -> Bits
     requires width { is_type_width (whole_part (number_reading count.now.signed count.now.value *ℤ pos value.width)) ≡ true }
-    requires narrow { count.now.value.width ≤ 64 }
     requires context { IsWidth context.width }
     ensures { result ≡ number_in_context (times_repeated (whole_part (number_reading count.now.signed count.now.value)) value) context }
 {
-    in_context(
-        value.repeat(reading(count.value, count.signed) as u32),
-        context,
-    )
+    in_context(value.repeat(few(reading(count))), context)
+}
+
+/// A number from 1 to 128.
+fn few(count: Whole) -> u32
+    requires some { pos 1 ≤ℤ count }
+    requires most { count ≤ℤ pos 128 }
+    ensures { result ≡ whole_part count }
+{
+    count.nearest() as u32
 }
 
 /// So many times the bits of a width, in a context, and 0 where no type may be so wide: there the bits need not be of the width.
 pub fn times_value(count: &Own, width: u32, value: Bits, context: ValueType) -> Bits
-    requires narrow { count.now.value.width ≤ 64 }
     requires whole { is_type_width (whole_part (number_reading count.now.signed count.now.value *ℤ pos width)) ≡ true → value.width ≡ width }
     requires context { IsWidth context.width }
     ensures value { result ≡ times_number (number_reading count.now.signed count.now.value) width value context }
@@ -247,12 +251,10 @@ pub fn times_value(count: &Own, width: u32, value: Bits, context: ValueType) -> 
 
 /// So many times the bits of parts, taken alone.
 pub fn times_own(at: Origin, count: &Own, parts: Typed, value: Bits) -> Own
-    requires narrow { count.now.value.width ≤ 64 }
     requires whole { is_type_width (whole_part (number_reading count.now.signed count.now.value *ℤ pos parts.kind.width)) ≡ true → value.width ≡ parts.kind.width }
     ensures value { result.value ≡ times_number (number_reading count.now.signed count.now.value) parts.kind.width value (times_parts at count.now.fault (number_reading count.now.signed count.now.value) parts).kind }
     ensures signed { result.signed ≡ (times_parts at count.now.fault (number_reading count.now.signed count.now.value) parts).kind.signed }
     ensures fault { result.fault ≡ (times_parts at count.now.fault (number_reading count.now.signed count.now.value) parts).fault }
-    ensures narrow { result.value.width ≤ 64 }
 {
     let earlier = first(count.fault, parts.fault);
     let Typed { kind, fault } = times_typed(at, earlier, count, parts.kind.width);

@@ -1,18 +1,17 @@
 //! The type and the value of an expression, or its first fault.
 
-ghost use Rattle.std.specs.Prelude.{◌≡◌, ◌≤ℤ◌, ◌<ℤ◌, ◌^◌, pos, neg_ℤ, IfOk};
+ghost use Rattle.std.specs.Prelude.{◌≡◌, IfOk};
 ghost use Rattle.sv_expr.specs.Bound.{IsWidth, fault_in};
 ghost use Rattle.sv_expr.specs.Environment.{environment};
 ghost use Rattle.sv_expr.specs.Meaning.{TypeOf, FirstFault, ValueOf, OwnReadingOf};
 ghost use Rattle.sv_expr.specs.Target.{TypeOfTarget, FirstFaultOfTarget};
 
-use crate::combine::reading;
 use crate::fault::WalkFault;
 use crate::scope::ScopeView;
 use crate::target::target_typed;
 use crate::walk::{own, typed, valued};
 use sv_tree::{Expr, Lvalue};
-use vs_base::{Bits, ValueType};
+use vs_base::{Bits, ValueType, Whole};
 
 /// The width and sign of an expression, taken alone (IEEE 1800-2017 11.6.1 and 11.8.1).
 ///
@@ -51,20 +50,18 @@ pub fn const_value(
 }
 
 /// The value of a constant expression alone, read with its own sign: an end of a range, a count, an address
-/// (IEEE 1800-2017 11.6.1 and 11.8.1). It is of at most 64 bits.
+/// (IEEE 1800-2017 11.6.1 and 11.8.1).
 ///
 /// The fault is that of [`expr_type`]. No memory is taken.
-pub fn own_value(scope: &ScopeView<'_>, expr: &Expr) -> Result<i128, WalkFault>
+pub fn own_value(scope: &ScopeView<'_>, expr: &Expr) -> Result<Whole, WalkFault>
     ensures value { IfOk result (λ value. value ≡ OwnReadingOf (environment scope.now) expr.now) }
-    ensures low { IfOk result (λ value. neg_ℤ (pos (2 ^ 64)) ≤ℤ value) }
-    ensures high { IfOk result (λ value. value <ℤ pos (2 ^ 64)) }
     ensures fault { fault_in result ≡ FirstFault (environment scope.now) expr.now }
 {
     let found = own(scope, expr);
     if let Some(fault) = found.fault {
         return Err(fault);
     }
-    Ok(reading(found.value, found.signed))
+    Ok(Whole::of(found.value, found.signed))
 }
 
 /// The width and sign of the target of an assignment (IEEE 1800-2017 10.3 and 11.4.12): of a name with its selects as

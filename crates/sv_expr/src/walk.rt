@@ -180,7 +180,7 @@ fn parts_typed(scope: &ScopeView<'_>, first: Typed, more: &[Step]) -> Typed
 #[cycle(walk)]
 fn choices_typed(scope: &ScopeView<'_>, choices: &[Choice]) -> Typed
     ensures typed { result ≡ walks.choices_typed (environment scope.now) choices.now }
-    ensures most { result.kind.width ≤ 64 }
+    ensures most { result.kind.width ≤ 128 }
 {
     let mut so_far = NO_CHOICE;
     for choice in choices {
@@ -329,7 +329,6 @@ fn alone(scope: &ScopeView<'_>, expr: &Expr) -> Bits
 pub fn own(scope: &ScopeView<'_>, expr: &Expr) -> Own
     ensures reading { reading result.signed result.value ≡ own_reading (meaning_of (environment scope.now) expr.now) }
     ensures fault { result.fault ≡ (meaning_of (environment scope.now) expr.now).typed.fault }
-    ensures narrow { result.value.width ≤ 64 }
 {
     match expr {
         Expr::Paren { inner, .. } => own(scope, inner.get()),

@@ -60,8 +60,8 @@ named = (refl, refl, refl)
 based : (is_number kind.Based (codes "'sd") ≡ false) × (is_number kind.Based (codes "'b12") ≡ false) × (is_number kind.Based (codes "'sHf_F") ≡ true) × (is_number kind.Based (codes "'h_") ≡ false)
 based = (refl, refl, refl, refl)
 
-bounds : (is_number kind.Decimal (codes "18446744073709551615") ≡ true) × (is_number kind.Decimal (codes "18446744073709551616") ≡ false)
-    × (is_number kind.Based (codes "'o1777777777777777777777") ≡ true) × (is_number kind.Based (codes "'o2000000000000000000000") ≡ false)
+bounds : (is_number kind.Decimal (codes "340282366920938463463374607431768211455") ≡ true) × (is_number kind.Decimal (codes "340282366920938463463374607431768211456") ≡ false)
+    × (is_number kind.Based (codes "'o3777777777777777777777777777777777777777777") ≡ true) × (is_number kind.Based (codes "'o4000000000000000000000000000000000000000000") ≡ false)
 bounds = (refl, refl, refl, refl)
 
 values : (value 10 0 (codes "12_000") ≡ 12000) × (value 16 0 (codes "Ff") ≡ 255)

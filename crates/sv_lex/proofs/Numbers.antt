@@ -16,7 +16,7 @@ value_grows base sum (b ∷ t) h = by (which (b == 95)) (value_grows base sum t 
     by (inl e) same more less = rw e same
     by (inr e) same more less = rw e (omega arith)
 
-not_small : (n : ℕ) → 2 ^ 64 ≤ n → is_small n ≡ false
+not_small : (n : ℕ) → 2 ^ 128 ≤ n → is_small n ≡ false
 not_small n h = grind arith
 
 and_false : (a b c : Bool) → c ≡ false → (a && b && c) ≡ false
@@ -24,7 +24,7 @@ and_false true true c e = e
 and_false true false c e = refl
 and_false false b c e = refl
 
-pub too_big : (some : Bool) (base sum : ℕ) (rest : Bytes) → 1 ≤ length rest → (get_or rest 0 0 == 95) ≡ false → 1 ≤ base → 2 ^ 64 ≤ sum * base + digit (get_or rest 0 0)
+pub too_big : (some : Bool) (base sum : ℕ) (rest : Bytes) → 1 ≤ length rest → (get_or rest 0 0 == 95) ≡ false → 1 ≤ base → 2 ^ 128 ≤ sum * base + digit (get_or rest 0 0)
     → ((some || list_any is_no_underscore rest) && each_digit base rest && is_small (value base sum rest)) ≡ false
 too_big some base sum [] l plain h big = absurd (omega arith)
 too_big some base sum (b ∷ t) l plain h big =

@@ -19,9 +19,9 @@ abbrev pub value : ℕ → ℕ → Bytes → ℕ
 value base sum [] = sum
 value base sum (b ∷ t) = if b == 95 then value base sum t else value base (sum * base + digit b) t
 
--- it fits in 64 bits
+-- it fits in 128 bits
 abbrev pub is_small : ℕ → Bool
-is_small n = nat_lt n (2 ^ 64)
+is_small n = nat_lt n (2 ^ 128)
 
 abbrev pub each_digit : ℕ → Bytes → Bool
 each_digit base [] = true

@@ -1,6 +1,6 @@
 //! Which spellings of numbers are numbers (IEEE 1800-2017 5.7.1, without x, z and `?`).
 
-ghost use Rattle.std.specs.Prelude.{◌≡◌, ◌<◌, ◌≤◌, ◌-◌, ◌^◌, length, MatchResult, Some, None};
+ghost use Rattle.std.specs.Prelude.{◌≡◌, ◌<◌, ◌≤◌, ◌+◌, ◌-◌, ◌*◌, ◌^◌, length, MatchOption, MatchResult, Some, None};
 ghost use Rattle.std.specs.List.{position_from};
 ghost use Rattle.sv_tree.specs.Tokens.{AreNamed};
 ghost use Rattle.sv_lex.specs.Number as spec;
@@ -31,7 +31,17 @@ fn base_of(b: u8) -> u8
     }
 }
 
-/// Some digits of the base, with a value below 2^64.
+/// A number with a further digit, where it is below 2^128.
+fn with_digit(sum: u128, base: u8, digit: u8) -> Option<u128>
+    ensures { MatchOption result (2 ^ 128 ≤ sum * base + digit) (λ more. more ≡ sum * base + digit) }
+{
+    let Some(moved) = sum.checked_mul(u128::from(base)) else {
+        return None;
+    };
+    moved.checked_add(u128::from(digit))
+}
+
+/// Some digits of the base, with a value below 2^128.
 fn is_digits(base: u8, text: &[u8]) -> bool
     requires { (2 ≤ base) × (base ≤ 16) }
     ensures { result ≡ spec.is_digits base text.now }
@@ -46,10 +56,10 @@ fn is_digits(base: u8, text: &[u8]) -> bool
                 return false;
             }
             some = true;
-            sum = sum * (base as u128) + (digit as u128);
-            if sum >= 1 << 64 {
+            let Some(more) = with_digit(sum, base, digit) else {
                 return false;
-            }
+            };
+            sum = more;
         }
         rest = more;
     }
@@ -81,8 +91,8 @@ fn is_number(kind: TokenKind, text: &[u8]) -> bool
 
 /// Refuses the first token that is spelled as a number and is none, by its place in the list from 0.
 ///
-/// A Decimal token of value 2^64 or more is no number. A Based token is none where it has no digit, or a
-/// digit that is not of its base (`x`, `z` and `?` among them), or its value is 2^64 or more. `_`
+/// A Decimal token of value 2^128 or more is no number. A Based token is none where it has no digit, or a
+/// digit that is not of its base (`x`, `z` and `?` among them), or its value is 2^128 or more. `_`
 /// is skipped. Tokens of other kinds are not looked at. Takes no memory.
 pub fn check_numbers(tokens: &[Token], names: &Names) -> Result<(), u32>
     requires few { length tokens.now < 2 ^ 32 - 1 }

@@ -11,7 +11,7 @@ abbrev pub invariant-parts_typed-loop-step : goal.invariant-parts_typed-loop-ste
 invariant-parts_typed-loop-step l = l.so_far ≡ steps_joined (environment l.scope) l.fn.first (take l.step-index l.more)
 
 abbrev pub invariant-choices_typed-loop-choice : goal.invariant-choices_typed-loop-choice
-invariant-choices_typed-loop-choice l = (l.so_far ≡ choices_typed (environment l.scope) (take l.choice-index l.choices)) × (l.so_far.kind.width ≤ 64)
+invariant-choices_typed-loop-choice l = (l.so_far ≡ choices_typed (environment l.scope) (take l.choice-index l.choices)) × (l.so_far.kind.width ≤ 128)
 
 abbrev pub invariant-selects_typed-loop-last : goal.invariant-selects_typed-loop-last
 invariant-selects_typed-loop-last l = (l.so_far ≡ selects_typed (environment l.scope) l.fn.whole (take l.last-index l.selects)) × IsWidth l.so_far.kind.width
