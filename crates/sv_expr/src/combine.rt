@@ -1,6 +1,6 @@
 //! How the types and values of parts make those of the whole.
 
-ghost use Rattle.std.specs.Prelude.{◌≡◌, ◌+◌, ◌≤◌, ◌≤ℤ◌, ◌×◌, pos, ◌+ℤ◌, ◌-ℤ◌, ◌*ℤ◌, map, true, None};
+ghost use Rattle.std.specs.Prelude.{◌≡◌, ◌+◌, ◌≤◌, ◌≤ℤ◌, pos, ◌+ℤ◌, ◌-ℤ◌, ◌*ℤ◌, map, true, None};
 ghost use Rattle.vs_base.specs.Number.{reading as number_reading};
 ghost use Rattle.vs_base.specs.WholeNumber.{nearest};
 ghost use Rattle.vs_base.specs.Operators.{joined as bits_joined, repeated as times_repeated, truth as bit_of};

@@ -1,5 +1,5 @@
 -- Small examples of the definitions, worked by hand from the standard.
-use Rattle.std.specs.Prelude.{◌≡◌, ℕ, List, [], ◌∷◌, map, Some, true, false, codes}
+use Rattle.std.specs.Prelude.{◌≡◌, ℕ, ◌-◌, ◌^◌, List, [], ◌∷◌, map, Some, true, false, codes}
 use Rattle.std.proofs.Common.{refl}
 use Rattle.sv_tree.specs.declared.token.TokenKind.TheVariants as kind
 use Rattle.sv_lex.specs.declared.piece.Piece.TheVariants.{Skipped, Spelled, Wrong}
@@ -7,7 +7,7 @@ use Rattle.sv_lex.specs.declared.piece.Defect.TheVariants as defect
 use Rattle.sv_lex.specs.Spelling.{spelling, is_word, is_mark_1, is_mark_2, is_mark_3}
 use Rattle.sv_lex.specs.Cut.{front, longest, cut, start}
 use Rattle.sv_lex.specs.Lexeme.{Lexeme, lexeme_of}
-use Rattle.sv_lex.specs.Number.{is_number, value}
+use Rattle.sv_lex.specs.Number.{is_number, is_small, value}
 
 abbrev lexemes : List ℕ → List Lexeme
 lexemes text = map lexeme_of (cut (start 0) text).tokens
@@ -60,9 +60,8 @@ named = (refl, refl, refl)
 based : (is_number kind.Based (codes "'sd") ≡ false) × (is_number kind.Based (codes "'b12") ≡ false) × (is_number kind.Based (codes "'sHf_F") ≡ true) × (is_number kind.Based (codes "'h_") ≡ false)
 based = (refl, refl, refl, refl)
 
-bounds : (is_number kind.Decimal (codes "340282366920938463463374607431768211455") ≡ true) × (is_number kind.Decimal (codes "340282366920938463463374607431768211456") ≡ false)
-    × (is_number kind.Based (codes "'o3777777777777777777777777777777777777777777") ≡ true) × (is_number kind.Based (codes "'o4000000000000000000000000000000000000000000") ≡ false)
-bounds = (refl, refl, refl, refl)
+bounds : (is_small (2 ^ 128 - 1) ≡ true) × (is_small (2 ^ 128) ≡ false) × (is_number kind.Decimal (codes "18446744073709551616") ≡ true)
+bounds = (refl, refl, refl)
 
 values : (value 10 0 (codes "12_000") ≡ 12000) × (value 16 0 (codes "Ff") ≡ 255)
 values = (refl, refl)
