@@ -1,14 +1,15 @@
 -- Small cases, worked out.
 use Rattle.std.proofs.Common.{◌≡◌, ℕ, true, false, [], ◌∷◌, Some, None, pos, negsuc, refl}
-use Rattle.std.specs.Prelude.{◌||◌, ◌==◌}
+use Rattle.std.specs.Prelude.{◌||◌, ◌&&◌, ◌==◌, if◌then◌else◌, nat_le, nat_lt, Option}
 use Rattle.rtl_pieces.specs.declared.range.BitRange.{BitRange}
 use Rattle.rtl_pieces.specs.declared.item.Item.{Item}
+use Rattle.rtl_pieces.specs.declared.pieces.Piece.{Piece}
 use Rattle.rtl_pieces.specs.declared.owned.OwnedRange.{OwnedRange}
 use Rattle.rtl_pieces.specs.Line.{has}
 use Rattle.rtl_pieces.specs.Named.{nothing, clipped, named_bits, whole_item}
 use Rattle.rtl_pieces.specs.Ranges.{empty, merged, minus}
 use Rattle.rtl_pieces.specs.Owned.{sweep}
-use Rattle.rtl_pieces.specs.Words.{pieces_from}
+use Rattle.rtl_pieces.specs.Words.{pieces_from, pieces_of}
 
 abbrev r : ℕ → ℕ → BitRange
 r from to = record { from = from; to = to }
@@ -75,3 +76,39 @@ four_pieces = refl
 
 a_single_bit_is_one_piece : pieces_from (λ bit. true) 0 1 0 ≡ record { bit = 0; len = 1 } ∷ []
 a_single_bit_is_one_piece = refl
+
+-- ---- the rule of 64 bits
+
+abbrev of_width : ℕ → ℕ → Item
+of_width elements width = record { first = 0; elements = elements; width = width; lsb = 0; low = pos 0 }
+
+abbrev p : ℕ → ℕ → Piece
+p bit len = record { bit = bit; len = len }
+
+abbrev nobody : ℕ → Option ℕ
+nobody b = None
+
+-- process 0 writes the bits below a place, and process 1 the others
+abbrev both_at : ℕ → ℕ → Option ℕ
+both_at place b = if nat_lt b place then Some 0 else Some 1
+
+-- process 0 writes the bits from a place up to another
+abbrev between : ℕ → ℕ → ℕ → Option ℕ
+between from to b = if nat_le from b && nat_lt b to then Some 0 else None
+
+full_is_one_piece : pieces_of nobody (of_width 1 64) ≡ p 0 64 ∷ []
+full_is_one_piece = refl
+
+one_bit_more_is_two : pieces_of nobody (of_width 1 65) ≡ p 0 64 ∷ p 64 1 ∷ []
+one_bit_more_is_two = refl
+
+two_full_pieces : pieces_of nobody (of_width 1 128) ≡ p 0 64 ∷ p 64 64 ∷ []
+two_full_pieces = refl
+
+-- it counts from where the writer changes
+from_the_last_cut : pieces_of (both_at 10) (of_width 1 128) ≡ p 0 10 ∷ p 10 64 ∷ p 74 54 ∷ []
+from_the_last_cut = refl
+
+-- `logic [127:0] m [0:2]; assign m[1][9:0] = a;`: element 1 is cut at 0, 10 and 74, the others at 0 and 64, and so each at all of these
+elements_are_cut_alike : pieces_of (between 128 138) (of_width 3 128) ≡ p 0 10 ∷ p 10 54 ∷ p 64 10 ∷ p 74 54 ∷ []
+elements_are_cut_alike = refl

@@ -2,7 +2,7 @@
 use Rattle.std.proofs.Common.{◌≡◌, ℕ, zero, suc, ◌+◌, ◌-◌, ◌*◌, ◌<◌, ◌≤◌, Bool, true, false, ◌&&◌, ltb, leb, eqb, List, [], ◌∷◌, ◌++◌, map, length, Option, Some, refl, sym, ap, ◌∙◌, subst, arith}
 use Rattle.std.specs.Prelude.{◌^◌, if◌then◌else◌, nat_lt, slice_get, ⊤}
 use Rattle.std.specs.List.{list_all}
-use Rattle.std.proofs.lemmas.Bool.{eq-eqb, eqb-true, leb-true, lt-ltb, and_parts, and_from, ltb-true, ltb-false, cond-true, cond_both}
+use Rattle.std.proofs.lemmas.Bool.{eq-eqb, eqb-true, leb-true, lt-ltb, and_parts, and_from, ltb-true, ltb-false, cond-true}
 use Rattle.vs_base.specs.declared.limits.TheConstants.{WIDTH}
 use Rattle.rtl_ir.specs.declared.design.Var.{Var}
 use Rattle.rtl_ir.specs.declared.design.Mem.{Mem}
@@ -130,7 +130,7 @@ pieces_tile line procs placed near =
     subst (λ (n : ℕ). Tiles line 0 n (pieces_in line procs)) (sym placed.bits)
     (items_tile line (writer_of line procs) 0 0 line.items placed.behind near (λ j. let z : 0 + j ≡ j = omega arith in ap (λ (k : ℕ). slice_get line.items k) z))
 
--- ---- how few words there can be: none has more bits than an element
+-- ---- how few words there can be where none has more than so many bits
 
 abbrev pub Short : ℕ → List Word → Type 0
 Short top [] = ⊤
@@ -142,21 +142,3 @@ short_length line top a b (word ∷ more) h s =
     let rest : b ≤ a + word.len + length more * top = short_length line top (a + word.len) b more h.2 s.1 in
     let e : suc (length more) * top ≡ top + length more * top = grind arith in
     omega (arith, s.0)
-
-pub short_append : (top : ℕ) (xs ys : List Word) → Short top xs → Short top ys → Short top (xs ++ ys)
-short_append top [] ys h k = k
-short_append top (word ∷ more) ys h k = (h.0, short_append top more ys h.1 k)
-
-pieces_short : (top : ℕ) (mem : Bool) (k element : ℕ) (cut : ℕ → Bool) (from len more : ℕ) → len + more ≤ top → Short top (map (word_of mem k element) (pieces_from cut from len more))
-pieces_short top mem k element cut from len zero h = (omega arith, tt)
-pieces_short top mem k element cut from len (suc more) h =
-    cond_both (cut (from + len)) (record { bit = from; len = len } ∷ pieces_from cut (from + len) 1 more) (pieces_from cut from (suc len) more) (λ (ps : List Piece). Short top (map (word_of mem k element) ps))
-    (λ e. (omega arith, pieces_short top mem k element cut (from + len) 1 more (omega arith)))
-    (λ e. pieces_short top mem k element cut from (suc len) more (omega arith))
-
-pub elements_short : (top : ℕ) (mem : Bool) (k : ℕ) (cut : ℕ → Bool) (width element more : ℕ) → 1 ≤ width → width ≤ top → Short top (element_words mem k (pieces_from cut 0 1 (width - 1)) element more)
-elements_short top mem k cut width element zero some h = tt
-elements_short top mem k cut width element (suc more) some h =
-    short_append top (map (word_of mem k element) (pieces_from cut 0 1 (width - 1))) (element_words mem k (pieces_from cut 0 1 (width - 1)) (suc element) more)
-    (pieces_short top mem k element cut 0 1 (width - 1) (omega arith))
-    (elements_short top mem k cut width (suc element) more some h)

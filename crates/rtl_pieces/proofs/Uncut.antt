@@ -1,14 +1,15 @@
--- The bits of a piece have one writer, or none, since the element is not cut between them.
-use Rattle.std.proofs.Common.{◌≡◌, ℕ, zero, suc, ◌+◌, ◌-◌, ◌<◌, ◌≤◌, Bool, true, false, not, ltb, List, [], ◌∷◌, map, Option, Some, None, refl, sym, ap, ◌∙◌, subst, arith, inl, inr}
+-- The bits of a piece have one writer, or none, and are no more than a word has, since the element is not cut between them.
+use Rattle.std.proofs.Common.{◌≡◌, ℕ, zero, suc, ◌+◌, ◌-◌, ◌%◌, ◌<◌, ◌≤◌, Bool, true, false, ltb, eqb, List, [], ◌∷◌, map, Option, Some, None, refl, sym, ap, ◌∙◌, subst, arith, inl, inr}
 use Rattle.std.specs.Prelude.{if◌then◌else◌, nat_lt, slice_get}
 use Rattle.std.specs.List.{All, list_all}
 use Rattle.std.proofs.lemmas.List.Elements.{All-nil, All-cons, All-append}
-use Rattle.std.proofs.lemmas.Bool.{cases_lt, or_parts, not-false, eqb-true, false≢true, and_from, and_parts, lt-ltb, ltb-true, ltb-false}
+use Rattle.std.proofs.lemmas.Bool.{cases_lt, or_parts, eq-eqb, eqb-true, false≢true, and_from, and_parts, lt-ltb, ltb-true, ltb-false, cond-true}
+use Rattle.vs_base.specs.declared.limits.TheConstants.{WORD}
 use Rattle.rtl_ir.specs.declared.design.Proc.{Proc}
 use Rattle.rtl_pieces.specs.declared.item.Item.{Item}
 use Rattle.rtl_pieces.specs.Near.{is_near}
 use Rattle.rtl_pieces.specs.Line.{Line, items_in, is_bit_in, place_in, place_of}
-use Rattle.rtl_pieces.specs.Words.{same_writer, is_cut, pieces_from, word_of, element_words, item_words, words_from, writer_of, pieces_in, IsPiece}
+use Rattle.rtl_pieces.specs.Words.{same_writer, same_below, begins, is_cut, pieces_from, word_of, element_words, item_words, words_from, writer_of, pieces_in, IsPiece}
 use Rattle.rtl_pieces.proofs.Tiling.{in_vars, in_mems, near_width}
 
 same_from : (x y : Option ℕ) → same_writer x y ≡ true → x ≡ y
@@ -17,28 +18,70 @@ same_from None None e = refl
 same_from (Some p) None e = absurd (false≢true e)
 same_from None (Some q) e = absurd (false≢true e)
 
+-- ---- one element, whose lowest bit stands at a place
+
+module _ (writer : ℕ → Option ℕ) (first : ℕ) where
+  joined_if : (bit : ℕ) (t : Bool) → t ≡ same_writer (writer (first + suc bit)) (writer (first + bit)) → eqb ((if t then suc (same_below writer first bit) else 0) % WORD) 0 ≡ false
+      → (writer (first + suc bit) ≡ writer (first + bit)) × (same_below writer first (suc bit) ≡ suc (same_below writer first bit))
+  joined_if bit true e h =
+      (same_from (writer (first + suc bit)) (writer (first + bit)) (sym e), cond-true (same_writer (writer (first + suc bit)) (writer (first + bit))) (suc (same_below writer first bit)) 0 (sym e))
+  joined_if bit false e h = absurd (false≢true (sym h))
+
+  -- a bit below which the element is not cut
+  joined : (bit : ℕ) → begins writer first (suc bit) ≡ false → (writer (first + suc bit) ≡ writer (first + bit)) × (same_below writer first (suc bit) ≡ suc (same_below writer first bit))
+  joined bit h = joined_if bit (same_writer (writer (first + suc bit)) (writer (first + bit))) refl h
+
+  -- from a bit on so many bits, between which it is not cut
+  run : (from len : ℕ) → ((j : ℕ) → from < j → j < from + len → begins writer first j ≡ false)
+      → (i : ℕ) → i < len → (writer (first + (from + i)) ≡ writer (first + from)) × (same_below writer first (from + i) ≡ same_below writer first from + i)
+  run from len none zero l =
+      let e : from + 0 ≡ from = omega arith in
+      let k : same_below writer first from ≡ same_below writer first from + 0 = omega arith in
+      (ap (λ (n : ℕ). writer (first + n)) e, ap (same_below writer first) e ∙ k)
+  run from len none (suc i) l =
+      let s : from + suc i ≡ suc (from + i) = omega arith in
+      let k : suc (same_below writer first from + i) ≡ same_below writer first from + suc i = omega arith in
+      let now = joined (from + i) (subst (λ (n : ℕ). begins writer first n ≡ false) s (none (from + suc i) (omega arith) (omega arith))) in
+      let before = run from len none i (omega arith) in
+      (ap (λ (n : ℕ). writer (first + n)) s ∙ now.0 ∙ before.0, ap (same_below writer first) s ∙ now.1 ∙ ap suc before.1 ∙ k)
+
+  multiple : (s : ℕ) → (s + (64 - s % 64)) % 64 ≡ 0
+  multiple s = omega arith
+
+  -- so they are no more than a word has
+  no_longer : (from len : ℕ) → ((j : ℕ) → from < j → j < from + len → begins writer first j ≡ false) → len ≤ WORD
+  no_longer from len none = elim (cases_lt WORD len) [
+    | inl more ↦
+        (let s = same_below writer first from in
+        let i = 64 - s % 64 in
+        let some : 0 < i = omega arith in
+        let few : i < len = omega arith in
+        let e : same_below writer first (from + i) ≡ s + i = (run from len none i few).1 in
+        let cut : begins writer first (from + i) ≡ true = eq-eqb (same_below writer first (from + i) % WORD) 0 (ap (λ (n : ℕ). n % WORD) e ∙ multiple s) in
+        absurd (false≢true (sym (none (from + i) (omega arith) (omega arith)) ∙ cut)))
+    | inr most ↦ most
+  ]
+
+-- ---- all elements of an item
+
 module _ (writer : ℕ → Option ℕ) (item : Item) where
-  uncut : (bit e n k : ℕ) → is_cut writer item bit e n ≡ false → e ≤ k → k < e + n → writer (place_in item k bit) ≡ writer (place_in item k bit - 1)
+  uncut : (bit e n k : ℕ) → is_cut writer item bit e n ≡ false → e ≤ k → k < e + n → begins writer (place_in item k 0) bit ≡ false
   uncut bit e zero k h l m = absurd (omega arith)
   uncut bit e (suc n) k h l m =
-      let parts = or_parts (not (same_writer (writer (place_in item e bit)) (writer (place_in item e bit - 1)))) (is_cut writer item bit (suc e) n) h in
+      let parts = or_parts (begins writer (place_in item e 0) bit) (is_cut writer item bit (suc e) n) h in
       elim (cases_lt e k) [
         | inl above ↦ uncut bit (suc e) n k parts.1 (omega arith) (omega arith)
         | inr below ↦
             (let here : k ≡ e = omega arith in
-            subst (λ (i : ℕ). writer (place_in item i bit) ≡ writer (place_in item i bit - 1)) (sym here)
-            (same_from (writer (place_in item e bit)) (writer (place_in item e bit - 1)) (not-false (same_writer (writer (place_in item e bit)) (writer (place_in item e bit - 1))) parts.0)))
+            subst (λ (i : ℕ). begins writer (place_in item i 0) bit ≡ false) (sym here) parts.0)
       ]
 
-  -- from a bit on so many bits, between which no element is cut
-  run : (k from len : ℕ) → k < item.elements → ((j : ℕ) → from < j → j < from + len → is_cut writer item j 0 item.elements ≡ false)
-      → (i : ℕ) → i < len → writer (place_in item k from + i) ≡ writer (place_in item k from)
-  run k from len h none zero l = let e : place_in item k from + 0 ≡ place_in item k from = omega arith in ap writer e
-  run k from len h none (suc i) l =
-      let here : place_in item k (from + suc i) ≡ place_in item k from + suc i = omega arith in
-      let before : place_in item k (from + suc i) - 1 ≡ place_in item k from + i = omega arith in
-      sym (ap writer here) ∙ uncut (from + suc i) 0 item.elements k (none (from + suc i) (omega arith) (omega arith)) (omega arith) (omega arith)
-      ∙ ap writer before ∙ run k from len h none i (omega arith)
+  -- the same of its place
+  placed : (k from i : ℕ) → writer (place_in item k 0 + (from + i)) ≡ writer (place_in item k 0 + from) → writer (place_in item k from + i) ≡ writer (place_in item k from)
+  placed k from i h =
+      let a : place_in item k 0 + (from + i) ≡ place_in item k from + i = omega arith in
+      let b : place_in item k 0 + from ≡ place_in item k from = omega arith in
+      sym (ap writer a) ∙ h ∙ ap writer b
 
 module _ (line : Line) (procs : List Proc) (mem : Bool) (number : ℕ) (item : Item) (here : items_in line mem number ≡ item) where
   cut : ℕ → Bool
@@ -53,11 +96,14 @@ module _ (line : Line) (procs : List Proc) (mem : Bool) (number : ℕ) (item : I
   unfolding None_between cut
   one element from len h some within none =
       let at : place_of line (record { mem = mem; item = number; element = element; bit = from }) ≡ place_in item element from = ap (λ (i : Item). place_in i element from) here in
+      let writer = writer_of line procs in
+      let here_none : (j : ℕ) → from < j → j < from + len → begins writer (place_in item element 0) j ≡ false = λ j a b. uncut writer item j 0 item.elements element (none j a b) (omega arith) (omega arith) in
       record {
         there = ap (λ (i : Item). is_bit_in i element from) here ∙ and_from (nat_lt element item.elements) (nat_lt from item.width) (lt-ltb element item.elements h) (lt-ltb from item.width (omega arith));
+        short = no_longer writer (place_in item element 0) from len here_none;
         within = subst (λ (i : Item). from + len ≤ i.width) (sym here) within;
         one_writer = λ b l.
-            ap (λ (n : ℕ). writer_of line procs (n + b)) at ∙ run (writer_of line procs) item element from len h none b l ∙ sym (ap (writer_of line procs) at);
+            ap (λ (n : ℕ). writer (n + b)) at ∙ placed writer item element from b (run writer (place_in item element 0) from len here_none b l).0 ∙ sym (ap writer at);
       }
 
   next : (element from len more : ℕ) (t : Bool) → t ≡ cut (from + len) → IsPiece line procs (word_of mem number element (record { bit = from; len = len }))

@@ -1,35 +1,46 @@
 -- The words of a layout together.
-use Rattle.std.proofs.Common.{◌≡◌, ℕ, suc, ◌+◌, ◌-◌, ◌*◌, ◌<◌, ◌≤◌, Bool, true, false, ◌&&◌, leb, List, [], ◌∷◌, ◌++◌, length, drop, Option, ap, ◌∙◌, arith, length-append}
-use Rattle.std.specs.Prelude.{◌^◌, if◌then◌else◌, nat_lt}
-use Rattle.std.specs.List.{list_all}
+use Rattle.std.proofs.Common.{◌≡◌, ℕ, suc, ◌+◌, ◌-◌, ◌*◌, ◌<◌, ◌≤◌, Bool, true, false, List, [], ◌∷◌, ◌++◌, length, drop, Option, ap, ◌∙◌, arith, length-append}
+use Rattle.std.specs.List.{All, list_all}
 use Rattle.std.proofs.Math.Path.{fun_ext}
-use Rattle.std.proofs.lemmas.Bool.{and_parts, leb-true, cond_both}
-use Rattle.vs_base.specs.declared.limits.TheConstants.{WIDTH, WORDS}
+use Rattle.std.proofs.lemmas.List.Elements.{All-nil, All-cons, All-append}
+use Rattle.vs_base.specs.declared.limits.TheConstants.{WORD, WORDS}
 use Rattle.rtl_ir.specs.declared.design.Proc.{Proc}
-use Rattle.rtl_pieces.specs.declared.item.Item.{Item}
 use Rattle.rtl_pieces.specs.declared.layout.Word.{Word}
 use Rattle.rtl_pieces.specs.Near.{is_near}
-use Rattle.rtl_pieces.specs.Line.{Line, Placed}
-use Rattle.rtl_pieces.specs.Words.{noted, is_cut, item_words, words_from, table_word, writer_of, shadows_of, pieces_in, words_in}
-use Rattle.rtl_pieces.proofs.Tiling.{Short, short_append, elements_short, short_length, pieces_tile}
+use Rattle.rtl_pieces.specs.Line.{Line, Placed, place_of}
+use Rattle.rtl_pieces.specs.Words.{noted, words_from, table_word, writer_of, is_clocked, shadow_of, shadow_if, shadows_of, pieces_in, words_in, IsPiece}
+use Rattle.rtl_pieces.proofs.Tiling.{Short, short_length, pieces_tile}
+use Rattle.rtl_pieces.proofs.Uncut.{all_pieces}
 
-near_widths : (item : Item) → is_near item ≡ true → (1 ≤ item.width) × (item.width ≤ WIDTH)
-near_widths item h =
-    let w = and_parts (leb 1 item.width) (leb item.width WIDTH) (and_parts (leb item.first (2 ^ 124)) (leb 1 item.width && leb item.width WIDTH) h).1 in
-    (leb-true 1 item.width w.0, leb-true item.width WIDTH w.1)
+-- ---- no word has more bits than a word may have
 
-item_short : (writer : ℕ → Option ℕ) (mem : Bool) (k : ℕ) (item : Item) → is_near item ≡ true → Short WIDTH (item_words writer mem k item)
-item_short writer mem k item h =
-    let w = near_widths item h in
-    elements_short WIDTH mem k (λ bit. is_cut writer item bit 0 item.elements) item.width 0 item.elements w.0 w.1
+abbrev IsShort : Word → Type 0
+IsShort word = word.len ≤ WORD
 
-words_short : (writer : ℕ → Option ℕ) (vars number : ℕ) (items : List Item) → list_all is_near items ≡ true → Short WIDTH (words_from writer vars number items)
-words_short writer vars number [] h = tt
-words_short writer vars number (item ∷ more) h =
-    let n = and_parts (is_near item) (list_all is_near more) h in
-    short_append WIDTH (if nat_lt number vars then item_words writer false number item else item_words writer true (number - vars) item) (words_from writer vars (suc number) more)
-    (cond_both (nat_lt number vars) (item_words writer false number item) (item_words writer true (number - vars) item) (Short WIDTH) (λ e. item_short writer false number item n.0) (λ e. item_short writer true (number - vars) item n.0))
-    (words_short writer vars (suc number) more n.1)
+short_pieces : (line : Line) (procs : List Proc) (words : List Word) → All (IsPiece line procs) words → All IsShort words
+short_pieces line procs words all i d h = (all i d h).short
+
+short_if : (t : Bool) (word : Word) → word.len ≤ WORD → All IsShort (shadow_if t word)
+short_if true word h = All-cons IsShort (shadow_of word) [] h (All-nil IsShort)
+short_if false word h = All-nil IsShort
+
+short_shadows : (line : Line) (procs : List Proc) (words : List Word) → All IsShort words → All IsShort (shadows_of line procs words)
+short_shadows line procs [] all = All-nil IsShort
+short_shadows line procs (word ∷ more) all =
+    let shadow = shadow_if (is_clocked procs (writer_of line procs (place_of line word.holds))) word in
+    All-append IsShort shadow (shadows_of line procs more)
+    (short_if (is_clocked procs (writer_of line procs (place_of line word.holds))) word (all 0 word (omega arith)))
+    (short_shadows line procs more (λ i d h. all (suc i) d (omega arith)))
+
+pub short_words : (line : Line) (procs : List Proc) → list_all is_near line.items ≡ true → All (λ (word : Word). word.len ≤ WORD) (words_in line procs)
+short_words line procs near =
+    let pieces = short_pieces line procs (pieces_in line procs) (all_pieces line procs near) in
+    All-cons IsShort table_word (pieces_in line procs ++ shadows_of line procs (pieces_in line procs)) (omega arith)
+    (All-append IsShort (pieces_in line procs) (shadows_of line procs (pieces_in line procs)) pieces (short_shadows line procs (pieces_in line procs) pieces))
+
+short_list : (words : List Word) → All IsShort words → Short WORD words
+short_list [] all = tt
+short_list (word ∷ more) all = (all 0 word (omega arith), short_list more (λ i d h. all (suc i) d (omega arith)))
 
 length_words : (line : Line) (procs : List Proc) → length (words_in line procs) ≡ 1 + (length (pieces_in line procs) + length (shadows_of line procs (pieces_in line procs)))
 length_words line procs = let e = length-append (pieces_in line procs) (shadows_of line procs (pieces_in line procs)) in omega arith
@@ -37,7 +48,8 @@ length_words line procs = let e = length-append (pieces_in line procs) (shadows_
 -- so many bits are too many words
 pub bits_many : (line : Line) (procs : List Proc) → Placed line → list_all is_near line.items ≡ true → 65535 * 64 < line.bits → WORDS < length (words_in line procs)
 bits_many line procs placed near h =
-    let s : line.bits ≤ 0 + length (pieces_in line procs) * WIDTH = short_length line WIDTH 0 line.bits (pieces_in line procs) (pieces_tile line procs placed near) (words_short (writer_of line procs) line.vars 0 line.items near) in
+    let short = short_list (pieces_in line procs) (short_pieces line procs (pieces_in line procs) (all_pieces line procs near)) in
+    let s : line.bits ≤ 0 + length (pieces_in line procs) * WORD = short_length line WORD 0 line.bits (pieces_in line procs) (pieces_tile line procs placed near) short in
     omega (arith, length_words line procs)
 
 -- ---- the words, as they are added: the table's, the pieces, the shadows

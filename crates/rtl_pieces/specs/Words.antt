@@ -1,5 +1,6 @@
 -- The words of a design: how its variables and the elements of its memories are cut into pieces with one writer each.
-use Rattle.std.specs.Prelude.{ℕ, zero, suc, ◌+◌, ◌-◌, ◌<◌, ◌≤◌, ◌≡◌, Bool, true, false, ◌||◌, if◌then◌else◌, not, ◌==◌, nat_lt, List, [], ◌∷◌, ◌++◌, map, length, Option, Some, None, slice_get}
+use Rattle.std.specs.Prelude.{ℕ, zero, suc, ◌+◌, ◌-◌, ◌%◌, ◌<◌, ◌≤◌, ◌≡◌, Bool, true, false, ◌||◌, if◌then◌else◌, ◌==◌, nat_lt, List, [], ◌∷◌, ◌++◌, map, length, Option, Some, None, slice_get}
+use Rattle.vs_base.specs.declared.limits.TheConstants.{WORD}
 use Rattle.rtl_ir.specs.declared.design.Proc.{Proc}
 use Rattle.rtl_ir.specs.declared.design.ProcKind.{ProcKind}
 use Rattle.rtl_ir.specs.declared.design.ProcKind.TheVariants.{Comb, Clocked}
@@ -39,12 +40,29 @@ same_writer (Some p) (Some q) = p == q
 same_writer None None = true
 same_writer _ _ = false
 
--- ---- pieces: a bit begins one where it is the lowest of its element, or where in some element it has another writer than the bit below it
+-- ---- pieces: the neighbouring bits of an element with one writer, or none, cut from their low end on where a piece has WORD bits
 
--- in some of so many elements from a number on
+-- how many bits of the element directly below a bit have its writer; the lowest bit of the element stands at this place
+abbrev pub same_below : (ℕ → Option ℕ) → ℕ → ℕ → ℕ
+same_below writer first zero = 0
+same_below writer first (suc bit) = if same_writer (writer (first + suc bit)) (writer (first + bit)) then suc (same_below writer first bit) else 0
+
+-- the element is cut below a bit: it is the lowest one, or has another writer than the bit below it, or the piece below it is full
+abbrev pub begins : (ℕ → Option ℕ) → ℕ → ℕ → Bool
+begins writer first bit = same_below writer first bit % WORD == 0
+
+-- so is one of so many elements from a number on
 abbrev pub is_cut : (ℕ → Option ℕ) → Item → ℕ → ℕ → ℕ → Bool
 is_cut writer item bit element zero = false
-is_cut writer item bit element (suc more) = not (same_writer (writer (place_in item element bit)) (writer (place_in item element bit - 1))) || is_cut writer item bit (suc element) more
+is_cut writer item bit element (suc more) = begins writer (place_in item element 0) bit || is_cut writer item bit (suc element) more
+
+-- whether a bit is marked in a list of marks; past its end none is
+abbrev pub or_false : Option Bool → Bool
+or_false (Some mark) = mark
+or_false None = false
+
+abbrev pub marked : List Bool → ℕ → Bool
+marked marks b = or_false (slice_get marks b)
 
 -- the piece that begins at a bit and has so many bits up to here, and the pieces of so many bits after it
 abbrev pub pieces_from : (ℕ → Bool) → ℕ → ℕ → ℕ → List Piece
@@ -56,7 +74,7 @@ abbrev pub piece_if : Bool → ℕ → ℕ → List Piece
 piece_if true from bit = record { bit = from; len = bit - from } ∷ []
 piece_if false from bit = []
 
--- all elements of a memory are cut at the same places
+-- all elements of a memory are cut at the same places, namely wherever one of them is
 abbrev pub pieces_of : (ℕ → Option ℕ) → Item → List Piece
 pieces_of writer item = pieces_from (λ bit. is_cut writer item bit 0 item.elements) 0 1 (item.width - 1)
 
@@ -124,8 +142,9 @@ abbrev pub Tiles : Line → ℕ → ℕ → List Word → Type 0
 Tiles line from to [] = from ≡ to
 Tiles line from to (word ∷ more) = (place_of line word.holds ≡ from) × (1 ≤ word.len) × Tiles line (from + word.len) to more
 
--- a piece lies in one element, and its bits have one writer, or none
+-- a piece lies in one element and has no more bits than a word, and its bits have one writer, or none
 pub record IsPiece (line : Line) (procs : List Proc) (word : Word) : Type 0 where
   pub there : is_bit line word.holds ≡ true
+  pub short : word.len ≤ WORD
   pub within : word.holds.bit + word.len ≤ (items_in line word.holds.mem word.holds.item).width
   pub one_writer : (b : ℕ) → b < word.len → writer_of line procs (place_of line word.holds + b) ≡ writer_of line procs (place_of line word.holds)

@@ -2,7 +2,7 @@
 
 ghost use Rattle.std.specs.Prelude.{◌≡◌, ◌≤◌, ◌<◌, ◌+◌, ◌^◌, ◌++◌, ◌∷◌, [], ℕ, map, length, drop, IfOk, IfErr, OnOk};
 ghost use Rattle.std.specs.List.{All};
-ghost use Rattle.vs_base.specs.declared.limits.TheConstants.{WORDS};
+ghost use Rattle.vs_base.specs.declared.limits.TheConstants.{WORD, WORDS};
 ghost use Rattle.rtl_pieces.specs.Bits.{line_in};
 ghost use Rattle.rtl_pieces.specs.Line.{place_of};
 ghost use Rattle.rtl_pieces.specs.Words as spec;
@@ -237,6 +237,7 @@ pub fn cut(alloc: Global, design: &Design) -> Result<Layout, CutFault>
     ensures words { IfOk result (λ layout. layout.words.items ≡ spec.words_in (line_in design.now) design.now.procs) }
     ensures few { IfOk result (λ layout. length layout.words.items ≤ WORDS) }
     ensures many { IfErr result (ManyIf (WORDS < length (spec.words_in (line_in design.now) design.now.procs))) }
+    ensures short { IfOk result (λ layout. All (λ word. word.len ≤ WORD) layout.words.items) }
     ensures pieces { IfOk result (λ layout. All (spec.IsPiece (line_in design.now) design.now.procs) (spec.pieces_in (line_in design.now) design.now.procs)) }
     ensures tiles { IfOk result (λ layout. spec.Tiles (line_in design.now) 0 (line_in design.now).bits (spec.pieces_in (line_in design.now) design.now.procs)) }
 {
@@ -248,5 +249,5 @@ pub fn cut(alloc: Global, design: &Design) -> Result<Layout, CutFault>
     layout_of(alloc, design.procs.as_slice(), &line, writers.as_slice())
 }
 
-/// More bits than these are more words than [`limits::WORDS`], since a word holds at most [`limits::WIDTH`] of them.
+/// More bits than these are more words than [`limits::WORDS`], since a word holds at most [`limits::WORD`] of them.
 const MOST_BITS: u128 = 65_535 * 64;

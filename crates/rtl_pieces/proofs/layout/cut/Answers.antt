@@ -1,15 +1,16 @@
-use Rattle.std.proofs.Common.{◌<◌, ◌*◌, ◌∙◌, List, length, ap, subst, arith}
+use Rattle.std.proofs.Common.{◌<◌, ◌≤◌, ◌*◌, ◌∙◌, List, length, ap, sym, subst, arith}
 use Rattle.std.proofs.lemmas.Result.{IfOk-weaker, IfErr-weaker}
 use Rattle.std.specs.List.{All}
-use Rattle.vs_base.specs.declared.limits.TheConstants.{WORDS}
+use Rattle.vs_base.specs.declared.limits.TheConstants.{WORD, WORDS}
 use Rattle.rtl_ir.specs.declared.design.Proc.{Proc}
+use Rattle.rtl_pieces.specs.declared.layout.Word.{Word}
 use Rattle.rtl_pieces.specs.Line.{Line}
 use Rattle.rtl_pieces.specs.Words.{words_in, pieces_in, Tiles, IsPiece}
 use Rattle.rtl_pieces.proofs.Counting.{many_weaker}
 use Rattle.rtl_pieces.proofs.Finding.{few_items, placed_line}
 use Rattle.rtl_pieces.proofs.Tiling.{pieces_tile}
 use Rattle.rtl_pieces.proofs.Uncut.{all_pieces}
-use Rattle.rtl_pieces.proofs.Whole.{bits_many}
+use Rattle.rtl_pieces.proofs.Whole.{bits_many, short_words}
 use Rattle.rtl_pieces.proofs.layout.cut.Goals as goal
 
 pub returns-then-bits-gt-MOST_BITS-clause-many : goal.returns-then-bits-gt-MOST_BITS-clause-many
@@ -40,6 +41,14 @@ returns-clause-many c =
     (subst (λ (ps : List Proc). WORDS < length (words_in c.in_ok-line.line ps)) c.as_slice.ensures k))
     fault h)
     c.layout_of.ensures.many
+
+pub returns-clause-short : goal.returns-clause-short
+returns-clause-short c =
+    let procs = c.args.design.now.procs in
+    IfOk-weaker c.layout_of.result _ _
+    (λ layout h. subst (All (λ (word : Word). word.len ≤ WORD))
+    (sym (h ∙ ap (λ (ps : List Proc). words_in c.in_ok-line.line ps) c.as_slice.ensures)) (short_words c.in_ok-line.line procs c.in_ok-line.ensures.near))
+    c.layout_of.ensures.words
 
 pub returns-clause-pieces : goal.returns-clause-pieces
 returns-clause-pieces c =
