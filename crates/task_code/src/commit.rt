@@ -1,6 +1,6 @@
 //! Commits: the shadows of what a process writes are copied to their words (IEEE 1800-2017 10.4.2).
 ghost use Rattle.std.specs.Prelude.{◌≡◌, ◌≤◌, ◌<◌, ◌+◌, ◌∷◌, [], drop, length, slice_get, Some, false, OnOk, IfOk};
-ghost use Rattle.vs_base.specs.declared.limits.TheConstants.{WIDTH};
+ghost use Rattle.vs_base.specs.declared.limits.TheConstants.{WORD};
 ghost use Rattle.task_eval.specs.declared.op.Op.TheVariants as the_op;
 ghost use Rattle.task_eval.specs.Soundness.{IsWithin};
 ghost use Rattle.rtl_pieces.specs.Line.{has, place_of};
@@ -12,7 +12,7 @@ use crate::tail::{Limits, Tail};
 use rtl_pieces::{BitLine, BitRange, Word};
 use std::alloc::Global;
 use task_eval::Code;
-use vs_base::limits::WIDTH;
+use vs_base::limits::WORD;
 
 /// What a commit looks at.
 #[derive(Clone, Copy)]
@@ -92,7 +92,7 @@ fn copy_shadow(
     ensures held { OnOk result (out.new.held ≡ out.old.held) }
 {
     let word = word_of(number, kept, written)?;
-    if word < limits.from || word >= limits.to || kept.len == 0 || kept.len > WIDTH {
+    if word < limits.from || word >= limits.to || kept.len == 0 || kept.len > WORD {
         return Err(CodeFault::DoesNotFit);
     }
     let Ok(shadow) = u32::try_from(number) else {

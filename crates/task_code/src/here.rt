@@ -1,7 +1,7 @@
 //! What the forms of a process look at: the design, its words, and which of them the process stores.
 ghost use Rattle.std.specs.Prelude.{◌≡◌, ℕ, ◌≤◌, ◌<◌, ◌+◌, ◌*◌, IfOk};
 ghost use Rattle.task_eval.specs.Soundness.{HasWords};
-ghost use Rattle.vs_base.specs.declared.limits.TheConstants.{WIDTH};
+ghost use Rattle.vs_base.specs.declared.limits.TheConstants.{WORD};
 
 use crate::fault::CodeFault;
 use crate::table::{Rows, Span, Table};
@@ -87,12 +87,12 @@ impl Here<'_> {
     pub(crate) fn piece(&self, word: u32) -> Result<Piece, CodeFault>
         ensures below { IfOk result (λ piece. piece.word < self.now.limits.words) }
         ensures some { IfOk result (λ piece. 1 ≤ piece.len) }
-        ensures most { IfOk result (λ piece. piece.len ≤ WIDTH) }
+        ensures most { IfOk result (λ piece. piece.len ≤ WORD) }
     {
         let Some(held) = self.words.get(word as usize) else {
             return Err(CodeFault::DoesNotFit);
         };
-        if word >= self.limits.words || held.len == 0 || held.len > limits::WIDTH {
+        if word >= self.limits.words || held.len == 0 || held.len > limits::WORD {
             return Err(CodeFault::DoesNotFit);
         }
         Ok(Piece {

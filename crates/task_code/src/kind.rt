@@ -1,9 +1,12 @@
 //! Widths, signs and operators of expressions (IEEE 1800-2017 11.6.1, 11.8.1).
+ghost use Rattle.std.specs.Prelude.{◌≤◌, IfOk};
+ghost use Rattle.vs_base.specs.declared.limits.TheConstants.{WORD};
 
 use crate::fault::CodeFault;
 use crate::here::Here;
 use rtl_ir::{BinaryOp, Call, Class, Expr, UnaryOp, Width};
 use task_eval::{One, Two};
+use vs_base::limits::WORD;
 
 /// The type of a context.
 #[derive(Clone, Copy, Debug, PartialEq, Eq)]
@@ -90,7 +93,9 @@ pub(crate) fn total_width(parts: &[Expr]) -> u32 {
 }
 
 /// How many bits the reply of a call has: one bit, which is 0, where the import is void.
-pub(crate) fn result_width(call: &Call, here: &Here<'_>) -> Result<Width, CodeFault> {
+pub(crate) fn result_width(call: &Call, here: &Here<'_>) -> Result<Width, CodeFault>
+    ensures most { IfOk result (λ width. width ≤ WORD) }
+{
     let Some(import) = here.design.imports.get(call.import as usize) else {
         return Err(CodeFault::DoesNotFit);
     };
@@ -101,11 +106,9 @@ pub(crate) fn result_width(call: &Call, here: &Here<'_>) -> Result<Width, CodeFa
 }
 
 /// The width of a formal argument.
-pub(crate) fn formal_width(
-    import: u32,
-    number: usize,
-    here: &Here<'_>,
-) -> Result<Width, CodeFault> {
+pub(crate) fn formal_width(import: u32, number: usize, here: &Here<'_>) -> Result<Width, CodeFault>
+    ensures most { IfOk result (λ width. width ≤ WORD) }
+{
     let Some(import) = here.design.imports.get(import as usize) else {
         return Err(CodeFault::DoesNotFit);
     };
@@ -115,9 +118,11 @@ pub(crate) fn formal_width(
     }
 }
 
-/// So many bits.
-fn width(bits: u32) -> Result<Width, CodeFault> {
-    if bits == 0 || bits > vs_base::limits::WIDTH {
+/// So many bits of an argument or a reply, which is one word.
+fn width(bits: u32) -> Result<Width, CodeFault>
+    ensures most { IfOk result (λ width. width ≤ WORD) }
+{
+    if bits == 0 || bits > WORD {
         return Err(CodeFault::DoesNotFit);
     }
     Ok(Width::new(bits))

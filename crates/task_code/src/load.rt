@@ -1,6 +1,7 @@
 //! Reads of words.
 ghost use Rattle.std.specs.Prelude.{◌≡◌, ◌≤◌, ◌<◌, ◌+◌, ◌∷◌, OnOk, IfOk};
 ghost use Rattle.task_eval.specs.declared.op.Op.TheVariants as the_op;
+ghost use Rattle.vs_base.specs.declared.limits.TheConstants.{WIDTH};
 ghost use Rattle.task_code.specs.Reads.{IsRead, zero_read, width_read as width_read_of};
 
 use crate::fault::CodeFault;
@@ -10,6 +11,7 @@ use crate::table::{Rows, Span};
 use crate::tail::Tail;
 use task_eval::Index;
 use vs_base::Bits;
+use vs_base::limits::WIDTH;
 
 /// Pushes the part of a variable or an element whose place is known before the run. The index, where it is taken when the code
 /// runs, is pushed after it.
@@ -54,7 +56,7 @@ fn load_nothing(own: &Own, part: &Part, out: &mut Tail) -> Result<(), CodeFault>
     ensures held { OnOk result (out.new.held ≡ out.old.held) }
 {
     let width = width_read(own, part);
-    if width == 0 || width > 128 {
+    if width == 0 || width > WIDTH {
         return Err(CodeFault::DoesNotFit);
     }
     out.push(Bits::new(width, 0))
@@ -83,7 +85,7 @@ fn load_bits(
     ensures depth { OnOk result (out.new.depth + 1 ≡ out.old.depth) }
     ensures held { OnOk result (out.new.held ≡ out.old.held) }
 {
-    if width == 0 || width > 128 {
+    if width == 0 || width > WIDTH {
         return Err(CodeFault::DoesNotFit);
     }
     let named = overlap(span, at, width, here)?;
@@ -181,14 +183,14 @@ fn slice_part(at: i64, width: u32, out: &mut Tail) -> Result<(), CodeFault>
     ensures depth { OnOk result (out.new.depth ≡ out.old.depth) }
     ensures held { OnOk result (out.new.held ≡ out.old.held) }
 {
-    if width == 0 || width > 128 {
+    if width == 0 || width > WIDTH {
         return Err(CodeFault::DoesNotFit);
     }
     out.slice(at, width)
 }
 
-/// Takes an address, and pushes the element that it names, of several words. The address stays below until all are
-/// joined, and is then cut off as the highest bit.
+/// Takes an address, and pushes the element that it names, of several words. The address is extended to the width of the widest
+/// element, and stays below until all words are joined. The element is then put over it.
 fn load_columns(
     rows: Rows,
     address: Index,
@@ -204,18 +206,29 @@ fn load_columns(
     let Some(last) = rows.stride.checked_sub(1) else {
         return Err(CodeFault::DoesNotFit);
     };
-    let width = own.width.bits();
-    out.slice(0, width)?;
-    out.join(1, width)?;
+    let mut high = own.width.bits();
+    put_over(high, out)?;
     let height = out.depth() - 2;
-    let mut high = width;
     for number in 0..last {
         let piece = here.piece(rows.first.saturating_add(number))?;
         high = high.saturating_sub(piece.len);
         out.join(high, piece.len)?;
         load_column(rows, number, address, height, here, out)?;
     }
-    load_column(rows, last, address, height, here, out)
+    load_column(rows, last, address, height, here, out)?;
+    out.widen(address.signed)
+}
+
+/// Takes so many bits, and the value below them, which is as wide as a value can be, and pushes these bits.
+fn put_over(width: u32, out: &mut Tail) -> Result<(), CodeFault>
+    requires deep { 1 ≤ out.old.depth }
+    requires some { 1 ≤ width }
+    requires most { width ≤ WIDTH }
+    ensures depth { OnOk result (out.new.depth ≡ out.old.depth + 1) }
+    ensures held { OnOk result (out.new.held ≡ out.old.held) }
+{
+    out.slice(0, width)?;
+    out.place(0)
 }
 
 /// Pushes the word of one piece of an element, whose address stands on so many values.

@@ -2,7 +2,7 @@
 ghost use Rattle.std.specs.Prelude.{◌≡◌, ℕ, ◌≤◌, ◌<◌, ◌+◌, ◌*◌, ◌∷◌, OnOk};
 ghost use Rattle.task_eval.specs.declared.op.Op.TheVariants as the_op;
 ghost use Rattle.task_eval.specs.Soundness.{HasWords};
-ghost use Rattle.vs_base.specs.declared.limits.TheConstants.{WIDTH, CALL_ARGUMENTS};
+ghost use Rattle.vs_base.specs.declared.limits.TheConstants.{WIDTH, WORD, CALL_ARGUMENTS};
 
 use crate::fault::CodeFault;
 use crate::tail::Tail;
@@ -26,7 +26,7 @@ impl Tail {
         requires deep { 1 ≤ self.old.depth }
         requires below { word < self.old.held.limits.words }
         requires some { 1 ≤ width }
-        requires most { width ≤ WIDTH }
+        requires most { width ≤ WORD }
         ensures ops { OnOk result (self.new.ops ≡ the_op.Load word width ∷ self.old.ops) }
         ensures depth { OnOk result (self.new.depth + 1 ≡ self.old.depth) }
         ensures held { OnOk result (self.new.held ≡ self.old.held) }
@@ -40,7 +40,7 @@ impl Tail {
         requires words { HasWords from }
         requires below { (k : ℕ) → k < from.count → from.base + k * from.stride < self.old.held.limits.words }
         requires some { 1 ≤ width }
-        requires most { width ≤ WIDTH }
+        requires most { width ≤ WORD }
         ensures depth { OnOk result (self.new.depth ≡ self.old.depth) }
         ensures held { OnOk result (self.new.held ≡ self.old.held) }
     {
@@ -53,7 +53,7 @@ impl Tail {
         requires to { word < self.old.held.limits.to }
         requires below { self.old.held.limits.to ≤ self.old.held.limits.words }
         requires some { 1 ≤ width }
-        requires most { width ≤ WIDTH }
+        requires most { width ≤ WORD }
         ensures ops { OnOk result (self.new.ops ≡ the_op.Store word width ∷ self.old.ops) }
         ensures depth { OnOk result (self.new.depth ≡ self.old.depth + 1) }
         ensures held { OnOk result (self.new.held ≡ self.old.held) }
@@ -68,7 +68,7 @@ impl Tail {
         requires to { (k : ℕ) → k < to.count → to.base + k * to.stride < self.old.held.limits.to }
         requires below { self.old.held.limits.to ≤ self.old.held.limits.words }
         requires some { 1 ≤ width }
-        requires most { width ≤ WIDTH }
+        requires most { width ≤ WORD }
         ensures depth { OnOk result (self.new.depth ≡ self.old.depth + 2) }
         ensures held { OnOk result (self.new.held ≡ self.old.held) }
     {
@@ -79,7 +79,7 @@ impl Tail {
     pub(crate) fn slice(&mut self, at: i64, width: u32) -> Result<(), CodeFault>
         requires deep { 1 ≤ self.old.depth }
         requires some { 1 ≤ width }
-        requires most { width ≤ 128 }
+        requires most { width ≤ WIDTH }
         ensures depth { OnOk result (self.new.depth ≡ self.old.depth) }
         ensures held { OnOk result (self.new.held ≡ self.old.held) }
     {
@@ -119,7 +119,7 @@ impl Tail {
     pub(crate) fn extend(&mut self, from: u32, to: u32, signed: bool) -> Result<(), CodeFault>
         requires deep { 1 ≤ self.old.depth }
         requires some { 1 ≤ to }
-        requires most { to ≤ 128 }
+        requires most { to ≤ WIDTH }
         ensures depth { OnOk result (self.new.depth ≡ self.old.depth) }
         ensures held { OnOk result (self.new.held ≡ self.old.held) }
     {
@@ -127,6 +127,16 @@ impl Tail {
             return Ok(());
         }
         self.add(Op::Extend { width: to, signed }, 1, 1)
+    }
+
+    /// Takes a value, and pushes it at the greatest width.
+    pub(crate) fn widen(&mut self, signed: bool) -> Result<(), CodeFault>
+        requires deep { 1 ≤ self.old.depth }
+        ensures depth { OnOk result (self.new.depth ≡ self.old.depth) }
+        ensures held { OnOk result (self.new.held ≡ self.old.held) }
+    {
+        let width = limits::WIDTH;
+        self.add(Op::Extend { width, signed }, 1, 1)
     }
 
     /// Takes an operand, and pushes what the operator gives.
@@ -148,19 +158,19 @@ impl Tail {
         self.add(Op::Two { op, width, signed }, 2, 1)
     }
 
-    /// Takes the low bits and the high ones below them, and pushes both as one value, which has to have at most 128 bits.
+    /// Takes the low bits and the high ones below them, and pushes both as one value, which has to have at most as many bits as a value can have.
     pub(crate) fn join(&mut self, high: u32, low: u32) -> Result<(), CodeFault>
         requires deep { 1 ≤ self.old.depth }
         ensures depth { OnOk result (self.new.depth ≡ self.old.depth + 1) }
         ensures held { OnOk result (self.new.held ≡ self.old.held) }
     {
-        if high == 0 || low == 0 || high.saturating_add(low) > 128 {
+        if high == 0 || low == 0 || high.saturating_add(low) > limits::WIDTH {
             return Err(CodeFault::DoesNotFit);
         }
         self.add(Op::Join { high, low }, 2, 1)
     }
 
-    /// Takes a value of so many bits, and pushes it so many times, which together has to have from 1 to 128 bits.
+    /// Takes a value of so many bits, and pushes it so many times, which together has to have as many bits as a value can have.
     pub(crate) fn repeat(&mut self, times: u32, width: u32) -> Result<(), CodeFault>
         requires deep { 1 ≤ self.old.depth }
         ensures depth { OnOk result (self.new.depth ≡ self.old.depth) }
@@ -169,7 +179,7 @@ impl Tail {
         let Some(all) = times.checked_mul(width) else {
             return Err(CodeFault::DoesNotFit);
         };
-        if times == 0 || width == 0 || all > 128 {
+        if times == 0 || width == 0 || all > limits::WIDTH {
             return Err(CodeFault::DoesNotFit);
         }
         self.add(Op::Repeat { times, width }, 1, 1)
@@ -198,6 +208,7 @@ impl Tail {
         requires deep { 1 ≤ self.old.depth }
         requires below { import < self.old.held.limits.imports }
         requires few { count ≤ CALL_ARGUMENTS }
+        requires most { width ≤ WORD }
         ensures depth { OnOk result (self.new.depth + 1 ≡ self.old.depth + count) }
         ensures held { OnOk result (self.new.held ≡ self.old.held) }
     {

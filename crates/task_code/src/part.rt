@@ -1,6 +1,6 @@
 //! Stores of a part of a value to one target.
 ghost use Rattle.std.specs.Prelude.{◌≡◌, ◌≤◌, ◌<◌, ◌+◌, OnOk, IfOk};
-ghost use Rattle.vs_base.specs.declared.limits.TheConstants.{WIDTH};
+ghost use Rattle.vs_base.specs.declared.limits.TheConstants.{WORD};
 
 use crate::fault::CodeFault;
 use crate::here::{Here, Piece};
@@ -108,7 +108,7 @@ fn write_piece(
     requires limits { out.old.held.limits ≡ here.now.limits }
     requires below { here.now.limits.to ≤ here.now.limits.words }
     requires some { 1 ≤ piece.len }
-    requires most { piece.len ≤ WIDTH }
+    requires most { piece.len ≤ WORD }
     requires value { aim.now.source.height < out.old.depth }
     requires address { aim.now.address < out.old.depth }
     requires index { aim.now.index < out.old.depth }
@@ -152,7 +152,7 @@ fn write_whole(
     requires limits { out.old.held.limits ≡ here.now.limits }
     requires below { here.now.limits.to ≤ here.now.limits.words }
     requires some { 1 ≤ piece.len }
-    requires most { piece.len ≤ WIDTH }
+    requires most { piece.len ≤ WORD }
     requires value { aim.now.source.height < out.old.depth }
     requires address { aim.now.address < out.old.depth }
     ensures depth { OnOk result (out.new.depth ≡ out.old.depth) }
@@ -177,7 +177,7 @@ fn write_within(
     requires limits { out.old.held.limits ≡ here.now.limits }
     requires below { here.now.limits.to ≤ here.now.limits.words }
     requires some { 1 ≤ piece.len }
-    requires most { piece.len ≤ WIDTH }
+    requires most { piece.len ≤ WORD }
     requires value { aim.now.source.height < out.old.depth }
     requires address { aim.now.address < out.old.depth }
     ensures depth { OnOk result (out.new.depth ≡ out.old.depth) }
@@ -201,7 +201,7 @@ fn write_at(
     requires limits { out.old.held.limits ≡ here.now.limits }
     requires below { here.now.limits.to ≤ here.now.limits.words }
     requires some { 1 ≤ piece.len }
-    requires most { piece.len ≤ WIDTH }
+    requires most { piece.len ≤ WORD }
     requires value { aim.now.source.height < out.old.depth }
     requires address { aim.now.address < out.old.depth }
     requires index { aim.now.index < out.old.depth }
@@ -247,7 +247,7 @@ fn store_piece(
     requires limits { out.old.held.limits ≡ here.now.limits }
     requires below { here.now.limits.to ≤ here.now.limits.words }
     requires some { 1 ≤ piece.len }
-    requires most { piece.len ≤ WIDTH }
+    requires most { piece.len ≤ WORD }
     requires address { aim.now.address < out.old.depth }
     ensures depth { OnOk result (out.new.depth ≡ out.old.depth + 1) }
     ensures held { OnOk result (out.new.held ≡ out.old.held) }
@@ -272,7 +272,7 @@ fn load_piece(
     requires limits { out.old.held.limits ≡ here.now.limits }
     requires below { here.now.limits.to ≤ here.now.limits.words }
     requires some { 1 ≤ piece.len }
-    requires most { piece.len ≤ WIDTH }
+    requires most { piece.len ≤ WORD }
     requires address { aim.now.address + 2 ≤ out.old.depth }
     ensures depth { OnOk result (out.new.depth + 1 ≡ out.old.depth) }
     ensures held { OnOk result (out.new.held ≡ out.old.held) }

@@ -11,6 +11,7 @@ use crate::stand::{address, select_index, width_of};
 use crate::tail::Tail;
 use rtl_ir::{Expr, Place, Target};
 use std::alloc::Global;
+use vs_base::limits::WIDTH;
 
 /// Writes a value to a place.
 pub(crate) fn write(
@@ -120,7 +121,7 @@ fn push_value(value: &Expr, width: u32, here: &Here<'_>, out: &mut Tail) -> Resu
     ensures depth { OnOk result (out.new.depth + 1 ≡ out.old.depth) }
     ensures held { OnOk result (out.new.held ≡ out.old.held) }
 {
-    if width > 128 {
+    if width > WIDTH {
         return Err(CodeFault::DoesNotFit);
     }
     let own = value.width.bits();
