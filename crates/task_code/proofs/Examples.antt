@@ -1,5 +1,5 @@
 -- The codes of a small design: `t[3:0] = a + 1`, and two clocked processes that write q[3:0] and q[7:4].
-use Rattle.std.proofs.Common.{◌≡◌, ℕ, zero, suc, ◌+◌, ◌*◌, ◌<◌, Bool, true, false, List, [], ◌∷◌, None, pos, refl, ap, arith}
+use Rattle.std.proofs.Common.{◌≡◌, ℕ, zero, suc, ◌+◌, ◌*◌, ◌<◌, Bool, true, false, List, [], ◌∷◌, None, pos, negsuc, refl, ap, arith}
 use Rattle.std.specs.Prelude.{◌==◌}
 use Rattle.std.proofs.lemmas.Bool.{false≢true, true≢false}
 use Rattle.vs_base.specs.Number.{Number}
@@ -198,6 +198,56 @@ a_whole_word = (omega arith, omega arith)
 
 no_word_of_no_bits : IsSole (sole.Word 0 0) → ⊥
 no_word_of_no_bits s = (let h = s.0 in omega (arith, h))
+
+no_word_of_more_than_64_bits : IsSole (sole.Word 4 65) → ⊥
+no_word_of_more_than_64_bits s = (let h = s.1 in omega (arith, h))
+
+-- ---- y = a at 128 bits: the words 1 and 2 hold a, and 3 and 4 hold y, the low bits first
+
+abbrev copies_all : Ops
+copies_all = code 2 (op.Load 2 64 ∷ op.Load 1 64 ∷ op.Join 64 64 ∷ op.Pick 0 ∷ op.Slice (pos 64) 64 ∷ op.Store 4 64 ∷ op.Pick 0 ∷ op.Store 3 64 ∷ op.Drop ∷ [])
+
+-- both words are stored
+copied_all : (answer : Answer) (after : After) → run answer after (course_of copies_all) (outside (0 ∷ 0x0123456789abcdef ∷ 0xfedcba9876543210 ∷ 5 ∷ 6 ∷ [])) ≡ outside (0 ∷ 0x0123456789abcdef ∷ 0xfedcba9876543210 ∷ 0x0123456789abcdef ∷ 0xfedcba9876543210 ∷ [])
+copied_all answer after = refl
+
+-- y[100:30] = 0 keeps the low 30 bits of word 3, and the high 27 of word 4
+abbrev clears_a_part : Ops
+clears_a_part = code 3 (op.Push (bits 71 0) ∷ op.Load 4 64 ∷ op.Pick 1 ∷ op.Slice (pos 0) 71 ∷ op.Place (negsuc 33) ∷ op.Store 4 64 ∷ op.Load 3 64 ∷ op.Pick 1 ∷ op.Slice (pos 0) 71 ∷ op.Place (pos 30) ∷ op.Store 3 64 ∷ op.Drop ∷ [])
+
+cleared_a_part : (answer : Answer) (after : After) → run answer after (course_of clears_a_part) (outside (0 ∷ 1 ∷ 2 ∷ 0xffffffffffffffff ∷ 0xffffffffffffffff ∷ [])) ≡ outside (0 ∷ 1 ∷ 2 ∷ 0x3fffffff ∷ 0xffffffe000000000 ∷ [])
+cleared_a_part answer after = refl
+
+-- ---- y = m[a] at 128 bits: the words 1 and 2 hold a, 3 to 6 two elements, and 7 and 8 hold y
+
+abbrev column : ℕ → Elements
+column base = record { base = base; stride = 2; count = 2; address = record { signed = false; low = pos 0 } }
+
+abbrev reads_an_element : Ops
+reads_an_element = code 3 (op.Load 2 64 ∷ op.Load 1 64 ∷ op.Join 64 64 ∷ op.Extend 128 false ∷ op.Pick 0 ∷ op.LoadAt (column 4) 64 ∷ op.Pick 1 ∷ op.LoadAt (column 3) 64 ∷ op.Join 64 64 ∷ op.Place (pos 0) ∷ op.Pick 0 ∷ op.Slice (pos 64) 64 ∷ op.Store 8 64 ∷ op.Pick 0 ∷ op.Store 7 64 ∷ op.Drop ∷ [])
+
+-- the element of address 1, of which no bit of the address is left
+read_an_element : (answer : Answer) (after : After) → run answer after (course_of reads_an_element) (outside (0 ∷ 1 ∷ 0 ∷ 3 ∷ 4 ∷ 0xffffffffffffffff ∷ 0xfffffffffffffffe ∷ 7 ∷ 8 ∷ [])) ≡ outside (0 ∷ 1 ∷ 0 ∷ 3 ∷ 4 ∷ 0xffffffffffffffff ∷ 0xfffffffffffffffe ∷ 0xffffffffffffffff ∷ 0xfffffffffffffffe ∷ [])
+read_an_element answer after = refl
+
+-- 2 ^ 64 names none
+read_no_element : (answer : Answer) (after : After) → run answer after (course_of reads_an_element) (outside (0 ∷ 0 ∷ 1 ∷ 3 ∷ 4 ∷ 5 ∷ 6 ∷ 7 ∷ 8 ∷ [])) ≡ outside (0 ∷ 0 ∷ 1 ∷ 3 ∷ 4 ∷ 5 ∷ 6 ∷ 0 ∷ 0 ∷ [])
+read_no_element answer after = refl
+
+-- ---- q <= a at 128 bits: the words 1 and 2 hold q, and 3 and 4 are their shadows
+
+abbrev register : List Word
+register = word 0 0 0 false ∷ word 0 0 64 false ∷ word 0 64 64 false ∷ word 0 0 64 true ∷ word 0 64 64 true ∷ []
+
+both_words : IsCommit register (λ w. true) (code 1 (op.Load 3 64 ∷ op.Store 1 64 ∷ op.Load 4 64 ∷ op.Store 2 64 ∷ []))
+both_words = (1, op.Load 4 64 ∷ op.Store 2 64 ∷ [], refl, refl, (2, [], refl, refl, refl))
+
+abbrev ops_left : List Op → ℕ
+ops_left [] = 0
+ops_left (o ∷ more) = suc (ops_left more)
+
+not_the_first_alone : IsCommit register (λ w. true) (code 1 (op.Load 3 64 ∷ op.Store 1 64 ∷ [])) → ⊥
+not_the_first_alone (k, rest, is, same, (n, last, was, next, end)) = (let e : 2 ≡ suc (suc (ops_left rest)) = ap ops_left same in let f : ops_left rest ≡ suc (suc (ops_left last)) = ap ops_left next in omega (arith, e, f))
 
 -- ---- n[5][7:0] of `logic [3:0] n [0:3]`
 

@@ -8,7 +8,7 @@
 //!
 //! # Terms
 //!
-//! A *word* holds neighbouring bits of a variable or of an element of a memory, and a *shadow* is a word that keeps what a clocked
+//! A *word* holds up to 64 neighbouring bits of a variable or of an element of a memory, and a *shadow* is a word that keeps what a clocked
 //! process writes to another word until the process is committed (`rtl_pieces`). A process that is not clocked loads and stores
 //! words. The body of a clocked process loads words where it reads, so that it sees the values from before, and stores shadows
 //! (IEEE 1800-2017 10.4.2); where it writes a part of a word it loads the shadow, puts the part in place, and stores the shadow. Its
@@ -30,6 +30,8 @@
 //! - A select by a constant touches only the words that hold its bits. An element at a constant address is found when the code is
 //!   made. Otherwise the words of one piece of all elements are one op's.
 //! - What is read from several words is joined; what is written to several is cut. A whole word is one op.
+//! - The address of an element of several words stays on the stack until they are joined, extended to the width of the widest value;
+//!   the element is then put over it.
 //!
 //! # What is proved
 //!

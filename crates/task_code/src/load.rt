@@ -227,7 +227,7 @@ fn put_over(width: u32, out: &mut Tail) -> Result<(), CodeFault>
     ensures depth { OnOk result (out.new.depth ≡ out.old.depth + 1) }
     ensures held { OnOk result (out.new.held ≡ out.old.held) }
 {
-    out.slice(0, width)?;
+    out.extend(WIDTH, width, false)?;
     out.place(0)
 }
 
