@@ -155,7 +155,10 @@ fn step(
     ensures held { OnOk result (out.new.held ≡ out.old.held) }
 {
     let Some(op) = binary(operator) else {
-        return logical(operator, right, here, out);
+        if operator == BinaryOp::LogOr {
+            return or_else(right, here, out);
+        }
+        return and_then(right, here, out);
     };
     match operator.class() {
         Class::Comparison => {
@@ -174,28 +177,34 @@ fn step(
     }
 }
 
-/// Takes the left operand of `&&` or `||`, and pushes the bit that it gives. The right operand is evaluated where the
-/// left one does not decide.
+/// Takes the left operand of `&&`, and pushes the bit that it gives. The right operand is evaluated where the left one holds.
 #[cycle(expression)]
-fn logical(
-    operator: BinaryOp,
-    right: &Expr,
-    here: &Here<'_>,
-    out: &mut Tail,
-) -> Result<(), CodeFault>
+fn and_then(right: &Expr, here: &Here<'_>, out: &mut Tail) -> Result<(), CodeFault>
     requires limits { out.old.held.limits ≡ here.now.limits }
     requires deep { 1 ≤ out.old.depth }
     ensures depth { OnOk result (out.new.depth ≡ out.old.depth) }
     ensures held { OnOk result (out.new.held ≡ out.old.held) }
 {
-    let is_or = operator == BinaryOp::LogOr;
-    decided(is_or, out)?;
+    decided(false, out)?;
     expression(right, here, out)?;
-    if is_or {
-        out.skip_if_true(0)?;
-    } else {
-        out.skip_if_zero(0)?;
-    }
+    out.skip_if_zero(0)?;
+    out.close();
+    out.close();
+    Ok(())
+}
+
+/// Takes the left operand of `||`, and pushes the bit that it gives. The right operand is evaluated where the left one does not
+/// hold.
+#[cycle(expression)]
+fn or_else(right: &Expr, here: &Here<'_>, out: &mut Tail) -> Result<(), CodeFault>
+    requires limits { out.old.held.limits ≡ here.now.limits }
+    requires deep { 1 ≤ out.old.depth }
+    ensures depth { OnOk result (out.new.depth ≡ out.old.depth) }
+    ensures held { OnOk result (out.new.held ≡ out.old.held) }
+{
+    decided(true, out)?;
+    expression(right, here, out)?;
+    out.skip_if_true(0)?;
     out.close();
     out.close();
     Ok(())
