@@ -2,4 +2,3 @@ pub mod Codes
 pub mod Evals
 pub mod Grows
 pub mod Rounds
-pub mod Widths

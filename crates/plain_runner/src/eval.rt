@@ -56,7 +56,6 @@ fn settle<C: Callee>(
     requires tables { AreTables built.now tables.now }
     requires room { deepest built.now.codes ≤ frame.old.room }
     requires words { length live.old.words.items ≡ length built.now.layout.words.items }
-    requires inputs { IsInput built.now.design inputs.now }
     requires fits { length (settled_in C.answer C.after (env_of (C.fixed live.old.host) built.now.ids tables.now.widths.items built.now.deemed) built.now inputs.now (seen_of live.old.words.items (C.state live.old.host) live.old.calls.calls)).calls ≤ live.old.calls.room }
     ensures run { seen_of live.new.words.items (C.state live.new.host) live.new.calls.calls ≡ settled_in C.answer C.after (env_of (C.fixed live.old.host) built.now.ids tables.now.widths.items built.now.deemed) built.now inputs.now (seen_of live.old.words.items (C.state live.old.host) live.old.calls.calls) }
     ensures room { frame.new.room ≡ frame.old.room }

@@ -1,8 +1,10 @@
 //! What a runner takes when it is opened.
-ghost use Rattle.std.specs.Prelude.{◌≡◌, ◌<◌, ℕ, [], length, map, slice_index, IfOk};
+ghost use Rattle.std.specs.Prelude.{◌≡◌, ◌<◌, ℕ, [], length, map, slice_index, true, IfOk};
+ghost use Rattle.std.specs.List.{list_all};
 ghost use Rattle.task_eval.specs.Codes.{deepest};
 ghost use Rattle.plan_types.specs.Machine.{input_words as words_of_inputs, event_word, opening_words as words_at_opening};
 ghost use Rattle.plan_types.specs.Room.{call_room as room_of};
+ghost use Rattle.run_tables.specs.Tables.{is_narrow};
 ghost use Rattle.plain_runner.specs.Tabled.{AreTables};
 
 use crate::live::Past;
@@ -30,6 +32,7 @@ fn with_codes(
     events: Vec<usize>,
 ) -> Result<Tables, NoMemory>
     requires inputs { inputs.items ≡ words_of_inputs built.now.design.ports built.now.layout.words.items }
+    requires narrow { list_all is_narrow inputs.items ≡ true }
     requires events { (v : ℕ) → v < length built.now.design.vars → slice_index events.items v ≡ event_word built.now.layout.words.items v }
     ensures { IfOk result (λ tables. AreTables built.now tables) }
 {

@@ -1,6 +1,8 @@
 //! The inputs.
-ghost use Rattle.std.specs.Prelude.{◌≡◌, ◌≤◌, ℕ, slice_index_or};
+ghost use Rattle.std.specs.Prelude.{◌≡◌, slice_index_or, true};
+ghost use Rattle.std.specs.List.{list_all};
 ghost use Rattle.plan_types.specs.Machine.{put_inputs, no_number};
+ghost use Rattle.run_tables.specs.Tables.{is_narrow};
 
 use plan_types::InputWord;
 use run_tables::{part, set_at};
@@ -8,12 +10,14 @@ use vs_base::Bits;
 
 // Gives each word its bits of its input.
 pub(crate) fn put(inputs: &[Bits], table: &[InputWord], words: &mut [u64])
-    requires { (k : ℕ) → (slice_index_or inputs.now k no_number).width ≤ 64 }
+    requires { list_all is_narrow table.now ≡ true }
     ensures { words.new ≡ put_inputs inputs.now table.now words.old }
 {
-    for word in table {
+    let mut rest = table;
+    while let [word, more @ ..] = rest {
         let input = input_at(inputs, word.input);
         set_at(words, word.word, part(input, word.bit, word.len));
+        rest = more;
     }
 }
 

@@ -3,6 +3,7 @@ ghost use Rattle.std.specs.Prelude.{◌≡◌, ◌++◌, ℕ, None, slice_index_
 ghost use Rattle.std.specs.List.{list_all};
 ghost use Rattle.rtl_ir.specs.WithinDesign.{port_fits};
 ghost use Rattle.plan_types.specs.Machine.{input_vars, input_of, input_word, input_words as words_of_inputs};
+ghost use Rattle.run_tables.specs.Tables.{is_narrow};
 
 use crate::events::is_piece;
 use crate::list::{filled, set_at};
@@ -11,14 +12,17 @@ use plan_types::InputWord;
 use rtl_ir::{Design, Port};
 use rtl_pieces::{Layout, Word};
 use std::alloc::Global;
+use vs_base::limits;
 
-/// The words with bits of input ports, in order, with the input of each. `NoMemory`: there was none left.
+/// The words with bits of input ports, in order, with the input of each. `NoMemory`: there was none left, or one of them
+/// has more bits than a word of the state.
 pub fn input_words(
     alloc: Global,
     design: &Design,
     layout: &Layout,
 ) -> Result<Vec<InputWord>, NoMemory>
-    ensures { IfOk result (λ out. out.items ≡ words_of_inputs design.now.ports layout.now.words.items) }
+    ensures words { IfOk result (λ out. out.items ≡ words_of_inputs design.now.ports layout.now.words.items) }
+    ensures narrow { IfOk result (λ out. list_all is_narrow out.items ≡ true) }
 {
     let inputs = inputs_of(alloc, design.ports.as_slice(), design.vars.len())?;
     let mut out = Vec::new(alloc);
@@ -39,13 +43,18 @@ fn add_word(
     word: Word,
     inputs: &[Option<usize>],
 ) -> Result<(), NoMemory>
-    ensures { OnOk result (out.new.items ≡ out.old.items ++ input_word number word (slice_index_or inputs.now word.holds.item None)) }
+    requires narrow { list_all is_narrow out.old.items ≡ true }
+    ensures word { OnOk result (out.new.items ≡ out.old.items ++ input_word number word (slice_index_or inputs.now word.holds.item None)) }
+    ensures narrow { OnOk result (list_all is_narrow out.new.items ≡ true) }
 {
     let Some(Some(input)) = inputs.get(word.holds.item as usize).copied() else {
         return Ok(());
     };
     if !is_piece(word) {
         return Ok(());
+    }
+    if word.len > limits::WORD {
+        return Err(NoMemory);
     }
     let Ok(()) = out.push(InputWord {
         word: number,

@@ -25,9 +25,9 @@ outputs_room vars widths (port ∷ more) = output_room vars widths port + output
 abbrev pub line_room : List Var → List ℕ → List Port → ℕ
 line_room vars widths ports = 21 + outputs_room vars widths ports
 
--- a call: the number and a space, the name, the parentheses, the arguments, each of at most 16 digits and a comma, the reply, and a line feed
+-- a call: the number and a space, the name, the parentheses, the arguments, each of at most 32 digits and a comma, the reply, and a line feed
 abbrev pub import_room : Import → ℕ
-import_room i = length i.name + (17 * length i.args + 43)
+import_room i = length i.name + (33 * length i.args + 59)
 
 abbrev pub import_room_if : Option Import → ℕ
 import_room_if (Some i) = import_room i

@@ -23,9 +23,9 @@ const COMMA: &[u8] = b",";
 // Adds a number at the width of a type.
 fn put_typed(text: &mut Vec<u8>, of: ValueType, number: u64)
     requires fits { is_type of ≡ true }
-    requires room { vec_len text.old + 16 ≤ vec_capacity text.old }
+    requires room { vec_len text.old + 32 ≤ vec_capacity text.old }
     ensures items { text.new.items ≡ text.old.items ++ hex_text (kept of.width number) }
-    ensures room { vec_len text.new ≤ vec_len text.old + 16 }
+    ensures room { vec_len text.new ≤ vec_len text.old + 32 }
     ensures capacity { vec_capacity text.old ≤ vec_capacity text.new }
 {
     put_hex(text, Bits::new(of.width, u128::from(number)));
@@ -34,9 +34,9 @@ fn put_typed(text: &mut Vec<u8>, of: ValueType, number: u64)
 // Adds the arguments.
 fn put_args(text: &mut Vec<u8>, types: &[ValueType], args: &[u64])
     requires fit { list_all is_type types.now ≡ true }
-    requires room { vec_len text.old + 17 * length types.now ≤ vec_capacity text.old }
+    requires room { vec_len text.old + 33 * length types.now ≤ vec_capacity text.old }
     ensures items { text.new.items ≡ text.old.items ++ args_text (codes "") types.now args.now }
-    ensures room { vec_len text.new ≤ vec_len text.old + 17 * length types.now }
+    ensures room { vec_len text.new ≤ vec_len text.old + 33 * length types.now }
     ensures capacity { vec_capacity text.old ≤ vec_capacity text.new }
 {
     let mut before = NOTHING;
@@ -57,9 +57,9 @@ fn put_args(text: &mut Vec<u8>, types: &[ValueType], args: &[u64])
 // Adds the reply, where there is one.
 fn put_reply(text: &mut Vec<u8>, of: Option<ValueType>, reply: u64)
     requires fits { result_is_type of ≡ true }
-    requires room { vec_len text.old + 19 ≤ vec_capacity text.old }
+    requires room { vec_len text.old + 35 ≤ vec_capacity text.old }
     ensures items { text.new.items ≡ text.old.items ++ reply_text of reply }
-    ensures room { vec_len text.new ≤ vec_len text.old + 19 }
+    ensures room { vec_len text.new ≤ vec_len text.old + 35 }
     ensures capacity { vec_capacity text.old ≤ vec_capacity text.new }
 {
     let Some(of) = of else {
@@ -71,9 +71,9 @@ fn put_reply(text: &mut Vec<u8>, of: Option<ValueType>, reply: u64)
 
 // Adds what stands behind the first parenthesis.
 fn put_rest(text: &mut Vec<u8>, import: &Import, call: &CallRec)
-    requires { vec_len text.old + (17 * length import.now.args + 20) ≤ vec_capacity text.old }
+    requires { vec_len text.old + (33 * length import.now.args + 36) ≤ vec_capacity text.old }
     ensures items { text.new.items ≡ text.old.items ++ rest_text import.now call.now }
-    ensures room { vec_len text.new ≤ vec_len text.old + (17 * length import.now.args + 20) }
+    ensures room { vec_len text.new ≤ vec_len text.old + (33 * length import.now.args + 36) }
     ensures capacity { vec_capacity text.old ≤ vec_capacity text.new }
 {
     put_args(text, import.args.as_slice(), call.args());
@@ -83,9 +83,9 @@ fn put_rest(text: &mut Vec<u8>, import: &Import, call: &CallRec)
 
 // Adds the call of an import, from its name on.
 fn put_import(text: &mut Vec<u8>, import: &Import, call: &CallRec)
-    requires { vec_len text.old + (length import.now.name + (17 * length import.now.args + 21)) ≤ vec_capacity text.old }
+    requires { vec_len text.old + (length import.now.name + (33 * length import.now.args + 37)) ≤ vec_capacity text.old }
     ensures items { text.new.items ≡ text.old.items ++ import_text import.now call.now }
-    ensures room { vec_len text.new ≤ vec_len text.old + (length import.now.name + (17 * length import.now.args + 21)) }
+    ensures room { vec_len text.new ≤ vec_len text.old + (length import.now.name + (33 * length import.now.args + 37)) }
     ensures capacity { vec_capacity text.old ≤ vec_capacity text.new }
 {
     put_bytes(text, import.name.as_bytes());

@@ -68,7 +68,7 @@ fn line_room(vars: &[Var], ports: &[Port]) -> Option<usize>
 fn import_room(import: &Import) -> usize
     ensures { result ≡ rooms.import_room import.now }
 {
-    import.name.as_bytes().len() + (17 * import.args.as_slice().len() + 43)
+    import.name.as_bytes().len() + (33 * import.args.as_slice().len() + 59)
 }
 
 // That of the longest one.

@@ -10,8 +10,8 @@ invariant-types l = record {
   written : l.text.items ++ args_text l.before l.types l.args ≡ l.fn.text.items ++ args_text [] l.fn.types l.fn.args;
   fit : list_all is_type l.types ≡ true;
   short : length l.before ≤ 1;
-  most : vec_len l.text + 17 * length l.types ≤ vec_len l.fn.text + 17 * length l.fn.types;
-  room : vec_len l.text + 17 * length l.types ≤ vec_capacity l.text;
+  most : vec_len l.text + 33 * length l.types ≤ vec_len l.fn.text + 33 * length l.fn.types;
+  room : vec_len l.text + 33 * length l.types ≤ vec_capacity l.text;
   capacity : vec_capacity l.fn.text ≤ vec_capacity l.text;
 }
 
