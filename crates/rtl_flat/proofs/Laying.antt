@@ -1,9 +1,10 @@
 -- How things are laid down scope by scope.
-use Rattle.std.proofs.Common.{◌≡◌, ℕ, ◌≤◌, List, [], ◌∷◌, ◌++◌, sym, subst, arith}
+use Rattle.std.proofs.Common.{◌≡◌, ℕ, ◌≤◌, List, [], ◌∷◌, ◌++◌, map, append_assoc, sym, ap, ◌∙◌, subst, arith}
 use Rattle.std.specs.List.{AllPairs}
+use Rattle.std.proofs.lemmas.List.{append-nil, map-append}
 use Rattle.std.proofs.lemmas.List.Elements.{All-nil, All-push, All-same}
 use Rattle.std.proofs.lemmas.List.Quantifiers.{all_pairs_push}
-use Rattle.rtl_flat.specs.Laid.{UpTo}
+use Rattle.rtl_flat.specs.Laid.{UpTo, Begins}
 
 module _ {X : Type 0} (scope_of : X → ℕ) (Stands : X → Type 0) where
   pub none_yet : (scope : ℕ) (xs : List X) → xs ≡ [] → UpTo scope_of Stands scope xs
@@ -28,3 +29,18 @@ module _ {X : Type 0} (scope_of : X → ℕ) (Stands : X → Type 0) where
     order = h.order;
     most = λ k d within. let low = h.most k d within in omega (arith, low);
   }
+
+-- one thing more of some is laid down behind others
+pub mapped_more : {X Y Z : Type 0} (f : X → Z) (g : Y → Z) (start xs ys : List X) (x : X) (done : List Y) (y : Y) → ys ≡ xs ++ x ∷ [] → f x ≡ g y
+    → map f xs ≡ map f start ++ map g done → map f ys ≡ map f start ++ map g (done ++ y ∷ [])
+mapped_more f g start xs ys x done y is same sofar =
+    ap (map f) is ∙ map-append f xs (x ∷ []) ∙ ap (λ l. l ++ f x ∷ []) sofar ∙ append_assoc (map f start) (map g done) (f x ∷ [])
+    ∙ ap (λ z. map f start ++ (map g done ++ z ∷ [])) same ∙ sym (ap (λ l. map f start ++ l) (map-append g done (y ∷ [])))
+
+-- what is laid down first
+pub begins_first : {X : Type 0} (front xs ys : List X) → xs ≡ [] → ys ≡ xs ++ front → Begins front ys
+begins_first front xs ys none is = record { rest = []; is = is ∙ ap (λ l. l ++ front) none ∙ sym (append-nil front) }
+
+-- what begins with a list still does when more is laid down
+pub begins_more : {X : Type 0} {front : List X} (xs ys more : List X) → ys ≡ xs ++ more → Begins front xs → Begins front ys
+begins_more {front = front} xs ys more is h = record { rest = h.rest ++ more; is = is ∙ ap (λ l. l ++ more) h.is ∙ append_assoc front h.rest more }

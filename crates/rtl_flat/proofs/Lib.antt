@@ -1,1 +1,4 @@
+pub mod Facts
 pub mod Laying
+pub mod Outcomes
+pub mod Tops

@@ -2,10 +2,13 @@
 use Rattle.std.specs.Prelude.{◌≡◌, ℕ, ◌≤◌, List, ◌∷◌, ◌++◌, Option, Some, slice_get}
 use Rattle.std.specs.List.{All, AllPairs}
 use Rattle.std.specs.Option.{option_map}
+use Rattle.vs_base.specs.Number.{Number}
+use Rattle.elab_types.specs.Packed.{Shape, shape}
 use Rattle.sv_elab.specs.declared.scope.Scope.{Scope}
 use Rattle.rtl_ir.specs.declared.design.FlatScope.{FlatScope}
 use Rattle.rtl_ir.specs.declared.design.Mem.{Mem}
 use Rattle.rtl_ir.specs.declared.design.Var.{Var}
+use Rattle.rtl_flat.specs.declared.held.HeldVar.{HeldVar}
 
 -- a scope with its path, the scope round it, and whether it is a block
 abbrev pub flat_scope_of : Scope → FlatScope
@@ -25,6 +28,25 @@ pub record MemStands (scopes : List Scope) (m : Mem) : Type 0 where
   pub name : List ℕ
   pub path : path_at scopes m.scope ≡ Some outer
   pub is_below : m.path ≡ outer ++ 46 ∷ name
+
+-- a variable by its name, its type with the index of its lowest bit, its value before the first eval, and the number of its scope
+pub record Typed : Type 0 where
+  pub name : List ℕ
+  pub packed : Shape
+  pub init : Number
+  pub scope : ℕ
+
+abbrev pub typed : Var → Typed
+typed v = record { name = v.name; packed = record { kind = record { width = v.width; signed = v.signed }; lsb = v.lsb }; init = v.init; scope = v.scope }
+
+-- one of the scope of this number, before it is laid down
+abbrev pub held_typed : ℕ → HeldVar → Typed
+held_typed scope v = record { name = v.name; packed = shape v.packed; init = v.init; scope = scope }
+
+-- a list that begins with another
+pub record Begins {X : Type 0} (front : List X) (whole : List X) : Type 0 where
+  pub rest : List X
+  pub is : whole ≡ front ++ rest
 
 -- the number of the scope in which each stands
 abbrev pub var_scope : Var → ℕ

@@ -53,7 +53,11 @@ ports_in texts (Some list) = listed_ports texts list
 abbrev pub ports_of : List (List ℕ) → Module → List FlatPort
 ports_of texts m = ports_in texts (list_of m.ports)
 
--- the ports of the module of the first scope
+-- the module of the first scope
+abbrev pub top_module : List Description → List Scope → Option Module
+top_module source [] = None
+top_module source (top ∷ more) = module_named top.module.0 source
+
+-- the ports of that module
 abbrev pub top_ports : List (List ℕ) → List Description → List Scope → Option (List FlatPort)
-top_ports texts source [] = None
-top_ports texts source (top ∷ more) = option_map (ports_of texts) (module_named top.module.0 source)
+top_ports texts source scopes = option_map (ports_of texts) (top_module source scopes)

@@ -1,14 +1,17 @@
-ghost use Rattle.std.specs.Prelude.{◌≡◌, Some, map, IfOk};
-ghost use Rattle.std.specs.List.{All};
+ghost use Rattle.std.specs.Prelude.{◌≡◌, true, Some, map, IfOk};
+ghost use Rattle.std.specs.List.{All, list_all};
 ghost use Rattle.rtl_flat.specs.Imports as imports;
 ghost use Rattle.rtl_flat.specs.Laid.{VarStands, MemStands, ScopeByScope, flat_scope_of, var_scope, mem_scope};
 ghost use Rattle.rtl_flat.specs.Ports as ports;
+ghost use Rattle.rtl_flat.specs.PortVars.{ArePortVars};
+ghost use Rattle.rtl_flat.specs.Edges.{has_bit_events};
 
+use crate::edges::have_bit_events;
 use crate::imports::{flat_imports, imports_in, number_of};
 use crate::ports::{module_named, top_ports};
 use crate::processes::{Lowering, import_denoted};
 use crate::text::copied;
-use crate::variables::{Variables, declarations_of, laid_down};
+use crate::variables::{Variables, declarations_of, laid_down, port_vars};
 use crate::walk::Walk;
 use elab_parts::Places;
 use rtl_ir::{Design, FlatScope, Import, Port, Proc};
@@ -30,6 +33,8 @@ pub fn flatten(
     ensures scopes { IfOk result (λ d. d.scopes ≡ map flat_scope_of scopes.now.scopes.items) }
     ensures imports { IfOk result (λ d. imports.AreImports names.now tree.now d.imports) }
     ensures ports { IfOk result (λ d. ports.top_ports names.now tree.now.descriptions scopes.now.scopes.items ≡ Some d.ports) }
+    ensures port_vars { IfOk result (λ d. ArePortVars names.now tree.now.descriptions scopes.now.scopes.items d.vars) }
+    ensures events { IfOk result (λ d. list_all (has_bit_events d.vars) d.procs ≡ true) }
     ensures vars { IfOk result (λ d. All (VarStands scopes.now.scopes.items) d.vars) }
     ensures mems { IfOk result (λ d. All (MemStands scopes.now.scopes.items) d.mems) }
     ensures vars_order { IfOk result (λ d. ScopeByScope var_scope d.vars) }
@@ -51,6 +56,8 @@ fn flattened(
     ensures scopes { IfOk result (λ d. d.scopes ≡ map flat_scope_of scopes.now) }
     ensures imports { IfOk result (λ d. imports.AreImports names.now tree.now d.imports) }
     ensures ports { IfOk result (λ d. ports.top_ports names.now tree.now.descriptions scopes.now ≡ Some d.ports) }
+    ensures port_vars { IfOk result (λ d. ArePortVars names.now tree.now.descriptions scopes.now d.vars) }
+    ensures events { IfOk result (λ d. list_all (has_bit_events d.vars) d.procs ≡ true) }
     ensures vars { IfOk result (λ d. All (VarStands scopes.now) d.vars) }
     ensures mems { IfOk result (λ d. All (MemStands scopes.now) d.mems) }
     ensures vars_order { IfOk result (λ d. ScopeByScope var_scope d.vars) }
@@ -87,6 +94,8 @@ fn parts_of(
     texts: &[&TreeImport],
 ) -> Result<Parts, FlatFault>
     ensures ports { IfOk result (λ parts. ports.top_ports names.now tree.now.descriptions scopes.now ≡ Some parts.ports) }
+    ensures port_vars { IfOk result (λ parts. ArePortVars names.now tree.now.descriptions scopes.now parts.variables.vars) }
+    ensures events { IfOk result (λ parts. list_all (has_bit_events parts.variables.vars) parts.procs ≡ true) }
     ensures vars { IfOk result (λ parts. All (VarStands scopes.now) parts.variables.vars) }
     ensures mems { IfOk result (λ parts. All (MemStands scopes.now) parts.variables.mems) }
     ensures vars_order { IfOk result (λ parts. ScopeByScope var_scope parts.variables.vars) }
@@ -94,6 +103,9 @@ fn parts_of(
 {
     let variables = declared(alloc, tree, names, scopes)?;
     let procs = processes(alloc, tree, names, scopes, &variables, imports, texts)?;
+    if !have_bit_events(variables.vars.as_slice(), procs.as_slice()) {
+        return Err(FlatFault::NotElaborated);
+    }
     let ports = ports_in(alloc, tree, names, scopes)?;
     Ok(Parts {
         variables,
@@ -109,14 +121,18 @@ fn declared(
     names: &Names,
     scopes: &[Scope],
 ) -> Result<Variables, FlatFault>
+    ensures port_vars { IfOk result (λ variables. ArePortVars names.now tree.now.descriptions scopes.now variables.vars) }
     ensures vars { IfOk result (λ variables. All (VarStands scopes.now) variables.vars) }
     ensures mems { IfOk result (λ variables. All (MemStands scopes.now) variables.mems) }
     ensures vars_order { IfOk result (λ variables. ScopeByScope var_scope variables.vars) }
     ensures mems_order { IfOk result (λ variables. ScopeByScope mem_scope variables.mems) }
 {
     let mut walk = Walk::new(alloc, tree, names, scopes, &[])?;
+    let top = walk.enter_top()?;
+    let view = walk.present.inside.view();
+    let ports = port_vars(alloc, &view, top)?;
     let held = declarations_of(alloc, &mut walk)?;
-    laid_down(alloc, scopes, held)
+    laid_down(alloc, scopes, ports, held)
 }
 
 /// The processes.
@@ -175,6 +191,7 @@ fn whole(
     ensures ports { IfOk result (λ d. d.ports ≡ parts.ports) }
     ensures vars { IfOk result (λ d. d.vars ≡ parts.variables.vars) }
     ensures mems { IfOk result (λ d. d.mems ≡ parts.variables.mems) }
+    ensures procs { IfOk result (λ d. d.procs ≡ parts.procs) }
 {
     let Parts {
         variables,

@@ -13,8 +13,8 @@
 //! name means what it does at its place (23.9). The walk keeps what is left in a list, since instances nest deeper than
 //! a stack holds.
 //!
-//! - The first pass (`variables.rt`) makes the variables and memories of each scope. Laid one after another, scope by
-//!   scope, they have their numbers.
+//! - The first pass (`variables.rt`) makes the variables and memories of each scope. Laid one after another, the
+//!   ports of the top first and then scope by scope, they have their numbers.
 //! - The second pass (`processes.rt`) makes the processes: continuous assignments, with those of a `wire` that has
 //!   `=` (10.3.1); connections, in the order of the child's ports and before the child's items (23.3.3); `always`
 //!   blocks.
@@ -33,7 +33,9 @@
 //! Every call is safe and ends, and what comes out is a `Design`, with all that its type keeps. Its scopes are those that come in;
 //! its imports are all those of the source, in token order, each with its types, its linkage name and its place
 //! (`specs/Imports.antt`); its ports are those of the first scope's module, port k as variable k, with their directions
-//! (`specs/Ports.antt`); each variable and each memory stands under the path of its scope, scope by scope (`specs/Laid.antt`). That
+//! (`specs/Ports.antt`), and these first variables have the ports' names, widths, signs and lowest indices, by the constants of the
+//! first scope, and are 0 at the start (`specs/PortVars.antt`); each variable and each memory stands under the path of its scope, scope by
+//! scope (`specs/Laid.antt`); each event is an edge of a variable of one bit (`specs/Edges.antt`). That
 //! the processes are those of the source, and the variables and memories all that it declares, is not proved.
 //!
 //! # Cost
@@ -50,6 +52,8 @@
 
 mod connect;
 mod design;
+mod edges;
+mod held;
 mod imports;
 mod ports;
 mod processes;

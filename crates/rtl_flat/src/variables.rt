@@ -1,9 +1,15 @@
 //! The variables and memories of all scopes.
 
-ghost use Rattle.std.specs.Prelude.{◌≡◌, ◌≤ℤ◌, ◌+ℤ◌, ◌^◌, pos, IfOk, OnOk};
+ghost use Rattle.std.specs.Prelude.{◌≡◌, ◌∷◌, ◌++◌, [], map, IfOk, OnOk};
 ghost use Rattle.std.specs.List.{All};
-ghost use Rattle.rtl_flat.specs.Laid.{VarStands, MemStands, VarsUpTo, MemsUpTo, ScopeByScope, var_scope, mem_scope};
+ghost use Rattle.elab_types.specs.Port.{port_shape, port_of};
+ghost use Rattle.sv_expr.specs.Environment.{environment};
+ghost use Rattle.rtl_flat.specs.Laid.{VarStands, MemStands, VarsUpTo, MemsUpTo, ScopeByScope, Begins, typed, held_typed, var_scope, mem_scope};
+ghost use Rattle.rtl_flat.specs.Ports.{list_of};
+ghost use Rattle.rtl_flat.specs.PortVars as spec;
 
+use crate::held::{Held, HeldMem, HeldVar};
+use crate::ports::ports_of;
 use crate::text::{copied, joined};
 use crate::walk::{Pass, Present, Walk};
 use elab_types::{
@@ -19,35 +25,10 @@ use sv_tree::{
     CommaList, Connections, DataType, Declaration, Dimension, Initial, Item, Module, Names, Port,
     Symbol, Token,
 };
-use vs_base::{Bits, Text};
-
-/// A variable of a scope.
-#[derive(Drop)]
-pub struct HeldVar {
-    name: Text,
-    packed: Packed,
-    init: Bits,
-    ghost init_width: { init.width ≡ packed.kind.width },
-}
-
-/// A memory of a scope.
-#[derive(Drop)]
-pub struct HeldMem {
-    name: Text,
-    packed: Packed,
-    addresses: Bounds,
-    ghost end: { (addresses.low +ℤ pos addresses.count) ≤ℤ pos (2 ^ 63) },
-}
-
-/// What a scope declares, the ports first.
-#[derive(Drop)]
-pub struct Held {
-    vars: Vec<HeldVar>,
-    mems: Vec<HeldMem>,
-}
+use vs_base::Bits;
 
 /// Where the variables and memories of a scope begin in the lists of the design.
-#[derive(Drop)]
+#[derive(Clone, Copy)]
 pub struct Extent {
     pub first_var: u32,
     pub first_mem: u32,
@@ -70,30 +51,25 @@ struct Declaring {
     held: Vec<Held>,
 }
 
-/// What each scope declares that a walk meets.
+/// What each scope declares that a walk meets which has entered the top, but for the ports of the top.
 pub fn declarations_of(alloc: Global, walk: &mut Walk<'_>) -> Result<Vec<Held>, FlatFault> {
     let mut pass = Declaring {
         alloc,
         held: Vec::new(alloc),
     };
-    walk.run(&mut pass)?;
+    pass.enter(Vec::new(alloc))?;
+    walk.go_on_from_top(&mut pass)?;
     Ok(pass.held)
 }
 
 impl Pass for Declaring {
     fn enter_module(&mut self, present: &mut Present<'_>, child: &Module) -> Result<(), FlatFault> {
-        self.enter()?;
-        let Some(ports) = &child.ports else {
-            return Ok(());
-        };
-        match &ports.list {
-            Some(list) => self.ports(present, list),
-            None => Ok(()),
-        }
+        let vars = port_vars(self.alloc, &present.inside.view(), child)?;
+        self.enter(vars)
     }
 
     fn enter_block(&mut self) -> Result<(), FlatFault> {
-        self.enter()
+        self.enter(Vec::new(self.alloc))
     }
 
     fn instance(
@@ -118,40 +94,16 @@ impl Pass for Declaring {
 }
 
 impl Declaring {
-    /// A further scope.
-    fn enter(&mut self) -> Result<(), FlatFault> {
+    /// A further scope, which has these variables so far.
+    fn enter(&mut self, vars: Vec<HeldVar>) -> Result<(), FlatFault> {
         let held = Held {
-            vars: Vec::new(self.alloc),
+            vars,
             mems: Vec::new(self.alloc),
         };
         let Ok(()) = self.held.push(held) else {
             return Err(FlatFault::NoMemory);
         };
         Ok(())
-    }
-
-    /// The ports of the present scope.
-    fn ports(&mut self, present: &Present<'_>, list: &CommaList<Port>) -> Result<(), FlatFault> {
-        let mut before = self.port(present, &list.first, no_port())?;
-        for joined in list.more.as_slice() {
-            before = self.port(present, &joined.item, before)?;
-        }
-        Ok(())
-    }
-
-    /// A port, and its direction and type.
-    fn port(
-        &mut self,
-        present: &Present<'_>,
-        port: &Port,
-        before: PortType,
-    ) -> Result<PortType, FlatFault> {
-        let kind = match port_type(&present.inside.view(), port, before) {
-            Ok(kind) => kind,
-            Err(fault) => return Err(FlatFault::from(fault)),
-        };
-        self.put_var(present, port.name, kind.packed, &None)?;
-        Ok(kind)
     }
 
     /// The variables and memories of an item.
@@ -227,6 +179,62 @@ impl Declaring {
     }
 }
 
+/// The variables of the ports of a module, in a scope in which the constants of its parameter list are declared.
+pub fn port_vars(
+    alloc: Global,
+    view: &ScopeView<'_>,
+    child: &Module,
+) -> Result<Vec<HeldVar>, FlatFault>
+    ensures { IfOk result (λ vars. map (held_typed 0) vars.items ≡ spec.ports_in (environment view.now) (list_of child.now.ports)) }
+{
+    match ports_of(child) {
+        Some(list) => listed_vars(alloc, view, list),
+        None => Ok(Vec::new(alloc)),
+    }
+}
+
+/// The variables of the ports of a list.
+fn listed_vars(
+    alloc: Global,
+    view: &ScopeView<'_>,
+    list: &CommaList<Port>,
+) -> Result<Vec<HeldVar>, FlatFault>
+    ensures { IfOk result (λ vars. map (held_typed 0) vars.items ≡ spec.listed (environment view.now) list.now) }
+{
+    let mut all = Vec::new(alloc);
+    let mut last = put_port(alloc, view, &list.first, no_port(), &mut all)?;
+    let mut rest = list.more.as_slice();
+    while let [joined, more @ ..] = rest {
+        last = put_port(alloc, view, &joined.item, last, &mut all)?;
+        rest = more;
+    }
+    Ok(all)
+}
+
+/// Adds the variable of a port, and gives the direction and the type of the port, by those of the port before it.
+fn put_port(
+    alloc: Global,
+    view: &ScopeView<'_>,
+    port: &Port,
+    before: PortType,
+    all: &mut Vec<HeldVar>,
+) -> Result<PortType, FlatFault>
+    ensures kind { IfOk result (λ kind. port_shape kind ≡ port_of (environment view.now) port.now (port_shape before)) }
+    ensures var { OnOk result (map (held_typed 0) all.new.items ≡ map (held_typed 0) all.old.items ++ spec.of_port (environment view.now) port.now (port_of (environment view.now) port.now (port_shape before)) ∷ []) }
+{
+    let kind = match port_type(view, port, before) {
+        Ok(kind) => kind,
+        Err(fault) => return Err(FlatFault::from(fault)),
+    };
+    let name = copied(alloc, text_of(view.names, port.name))?;
+    let packed = kind.packed;
+    let init = Bits::new(packed.kind.width, 0);
+    let Ok(()) = all.push(HeldVar { name, packed, init }) else {
+        return Err(FlatFault::NoMemory);
+    };
+    Ok(kind)
+}
+
 /// A variable of the present scope.
 fn held_var(
     alloc: Global,
@@ -296,12 +304,14 @@ pub fn is_wire(names: &Names, kind: &DataType) -> bool {
     }
 }
 
-/// The lists of all scopes one after another.
+/// The ports of the top, and then the lists of all scopes one after another.
 pub fn laid_down(
     alloc: Global,
     scopes: &[Scope],
+    ports: Vec<HeldVar>,
     declared: Vec<Held>,
 ) -> Result<Variables, FlatFault>
+    ensures ports { IfOk result (λ variables. Begins (map (held_typed 0) ports.items) (map typed variables.vars)) }
     ensures vars { IfOk result (λ variables. All (VarStands scopes.now) variables.vars) }
     ensures mems { IfOk result (λ variables. All (MemStands scopes.now) variables.mems) }
     ensures vars_order { IfOk result (λ variables. ScopeByScope var_scope variables.vars) }
@@ -311,8 +321,12 @@ pub fn laid_down(
     let mut mems = Items::new(alloc);
     let mut extents = Vec::new(alloc);
     let mut scope: u32 = 0;
+    let mut extent = Extent {
+        first_var: 0,
+        first_mem: 0,
+    };
+    put_vars(alloc, scopes, scope, ports, &mut vars)?;
     for held in declared {
-        let extent = extent_after(vars.len(), mems.len())?;
         let Held {
             vars: some_vars,
             mems: some_mems,
@@ -320,6 +334,7 @@ pub fn laid_down(
         put_vars(alloc, scopes, scope, some_vars, &mut vars)?;
         put_mems(alloc, scopes, scope, some_mems, &mut mems)?;
         put_extent(extent, &mut extents)?;
+        extent = extent_after(vars.len(), mems.len())?;
         scope = scope.saturating_add(1);
     }
     Ok(Variables {
@@ -354,7 +369,8 @@ fn put_vars(
     vars: &mut Items<Var>,
 ) -> Result<(), FlatFault>
     requires { VarsUpTo scopes.now scope vars.old }
-    ensures { OnOk result (VarsUpTo scopes.now scope vars.new) }
+    ensures up_to { OnOk result (VarsUpTo scopes.now scope vars.new) }
+    ensures typed { OnOk result (map typed vars.new ≡ map typed vars.old ++ map (held_typed scope) some.items) }
 {
     for held in some {
         vars.push(new_var(alloc, scopes, scope, held)?)?;
@@ -365,7 +381,7 @@ fn put_vars(
 /// A variable of the scope of this number.
 fn new_var(alloc: Global, scopes: &[Scope], scope: u32, held: HeldVar) -> Result<Var, FlatFault>
     ensures stands { IfOk result (λ var. VarStands scopes.now var) }
-    ensures scope { IfOk result (λ var. var_scope var ≡ scope) }
+    ensures typed { IfOk result (λ var. typed var ≡ held_typed scope held) }
 {
     let Some(outer) = scopes.get(scope as usize) else {
         return Err(FlatFault::NotElaborated);

@@ -1,6 +1,13 @@
 //! The walk over the scopes of a design in the order in which elaboration laid them down. It keeps what is left to be walked in a
 //! list, since instances may nest deeper than the stack holds.
 
+ghost use Rattle.std.specs.Prelude.{◌≡◌, length, take, Some, IfOk, IfSome, OnOk};
+ghost use Rattle.scope_table.specs.Scopes.{at_file_level};
+ghost use Rattle.sv_expr.specs.declared.scope.Denoted.TheVariants as denoted;
+ghost use Rattle.rtl_flat.specs.Heads as heads;
+ghost use Rattle.rtl_flat.specs.Ports.{top_module};
+
+use crate::ports::module_named;
 use elab_types::block_taken;
 use rtl_ir::Import;
 use rtl_lower::{FlatFault, Inside, enter_block, first_value};
@@ -110,7 +117,12 @@ impl<'t> Walk<'t> {
         names: &'t Names,
         scopes: &'t [Scope],
         imports: &'t [Import],
-    ) -> Result<Walk<'t>, FlatFault> {
+    ) -> Result<Walk<'t>, FlatFault>
+        ensures tree { IfOk result (λ walk. walk.tree.now ≡ tree.now) }
+        ensures scopes { IfOk result (λ walk. walk.present.scopes.now ≡ scopes.now) }
+        ensures names { IfOk result (λ walk. walk.present.inside.names.now ≡ names.now) }
+        ensures table { IfOk result (λ walk. walk.present.inside.table ≡ at_file_level (length names.now) denoted.Nothing) }
+    {
         let modules = Modules::new(alloc, tree)?;
         let table = ScopeTable::new(alloc, names.len(), Denoted::Nothing)?;
         Ok(Walk {
@@ -134,13 +146,35 @@ impl<'t> Walk<'t> {
 
     /// Goes over the whole design.
     pub fn run<P: Pass>(&mut self, pass: &mut P) -> Result<(), FlatFault> {
-        let Some(top) = self.present.scopes.first() else {
+        let top = self.enter_top()?;
+        pass.enter_module(&mut self.present, top)?;
+        self.go_on_from_top(pass)
+    }
+
+    /// Enters the top, and gives its module.
+    pub fn enter_top(&mut self) -> Result<&'t Module, FlatFault>
+        ensures module { IfOk result (λ m. top_module self.old.tree.now.descriptions self.old.present.scopes.now ≡ Some m.now) }
+        ensures table { IfOk result (λ m. heads.IsTopHead self.old.present.scopes.now m.now self.old.present.inside.table self.new.present.inside.table) }
+        ensures names { self.new.present.inside.names.now ≡ self.old.present.inside.names.now }
+    {
+        let [top, ..] = self.present.scopes else {
             return Err(FlatFault::NotElaborated);
         };
-        match module_of(self.tree, &self.modules, top.module) {
-            Some(child) => self.enter_module(pass, child)?,
-            None => return Err(FlatFault::NotElaborated),
-        }
+        let Some(module) = module_named(self.tree.descriptions.as_slice(), top.module) else {
+            return Err(FlatFault::NotElaborated);
+        };
+        self.present.enter_instance(module, top)?;
+        let items = Level {
+            source: Source::Module(module),
+            next: 0,
+            end: End::Leave,
+        };
+        add(&mut self.levels, &items)?;
+        Ok(module)
+    }
+
+    /// Goes over what is left once the top is entered.
+    pub fn go_on_from_top<P: Pass>(&mut self, pass: &mut P) -> Result<(), FlatFault> {
         for _ in 0..u64::MAX {
             let Some(level) = self.levels.pop() else {
                 return Ok(());
@@ -244,16 +278,10 @@ impl<'t> Walk<'t> {
 
     /// Enters the scope of an instance.
     fn enter_module<P: Pass>(&mut self, pass: &mut P, child: &'t Module) -> Result<(), FlatFault> {
-        self.present.inside.table.enter_module()?;
-        self.present.open(0)?;
-        self.enter_items(child)?;
+        let scope = self.present.scope(self.present.entered)?;
+        self.present.enter_instance(child, scope)?;
+        self.add_items(Source::Module(child), End::Leave)?;
         pass.enter_module(&mut self.present, child)
-    }
-
-    /// Declares the constants of the parameter list of an instance's module, and notes its items.
-    fn enter_items(&mut self, child: &'t Module) -> Result<(), FlatFault> {
-        self.present.declare_constants(parameter_count(child))?;
-        self.add_items(Source::Module(child), End::Leave)
     }
 
     /// Does what is to be done after the last item.
@@ -341,7 +369,9 @@ impl<'t> Present<'t> {
     }
 
     /// Enters the next scope, of whose constants so many are declared.
-    fn open(&mut self, values: usize) -> Result<(), FlatFault> {
+    fn open(&mut self, values: usize) -> Result<(), FlatFault>
+        ensures { self.new.inside ≡ self.old.inside }
+    {
         let scope = self.entered;
         self.entered = scope.saturating_add(1);
         let open = Open {
@@ -356,24 +386,25 @@ impl<'t> Present<'t> {
         Ok(())
     }
 
+    /// Enters the scope of an instance of a module, in which the constants of the module's parameter list are declared.
+    fn enter_instance(&mut self, child: &Module, scope: &Scope) -> Result<(), FlatFault>
+        ensures table { OnOk result (self.new.inside.table ≡ heads.in_head child.now scope.now self.old.inside.table) }
+        ensures names { self.new.inside.names.now ≡ self.old.inside.names.now }
+    {
+        let Some(constants) = listed(child, scope.values.as_slice()) else {
+            return Err(FlatFault::NotElaborated);
+        };
+        self.inside.table.enter_module()?;
+        self.open(constants.len())?;
+        declare_all(&mut self.inside.table, constants)
+    }
+
     /// Declares so many further constants of the present scope.
     fn declare_constants(&mut self, count: usize) -> Result<(), FlatFault> {
         for _ in 0..count {
             let constant = self.next_constant()?;
-            self.declare_constant(constant)?;
+            declare(&mut self.inside.table, constant)?;
         }
-        Ok(())
-    }
-
-    /// Declares a constant.
-    fn declare_constant(&mut self, constant: Constant) -> Result<(), FlatFault> {
-        let fixed = Fixed {
-            kind: constant.kind,
-            value: constant.value,
-        };
-        self.inside
-            .table
-            .declare(constant.name, Denoted::Constant(fixed))?;
         Ok(())
     }
 
@@ -434,10 +465,40 @@ fn list_len<T>(list: &CommaList<T>) -> usize {
     list.more.len().saturating_add(1)
 }
 
-/// How many parameters a module's list has.
-fn parameter_count(module: &Module) -> usize {
-    match &module.parameters {
-        Some(parameters) => list_len(&parameters.list),
-        None => 0,
+/// The constants of a module's parameter list, which are the first of a scope's. `None`: there are too few.
+fn listed<'s>(child: &Module, values: &'s [Constant]) -> Option<&'s [Constant]>
+    ensures { IfSome result (λ some. some.now ≡ take (heads.parameter_count child.now.parameters) values.now) }
+{
+    let Some(parameters) = &child.parameters else {
+        return Some(&values[..0]);
+    };
+    let more = parameters.list.more.len();
+    if more >= values.len() {
+        return None;
     }
+    Some(&values[..more + 1])
+}
+
+/// Declares constants one after another.
+fn declare_all(table: &mut ScopeTable<Denoted>, constants: &[Constant]) -> Result<(), FlatFault>
+    ensures { OnOk result (table.new ≡ heads.with_constants constants.now table.old) }
+{
+    let mut rest = constants;
+    while let [constant, more @ ..] = rest {
+        declare(table, *constant)?;
+        rest = more;
+    }
+    Ok(())
+}
+
+/// Declares a constant.
+fn declare(table: &mut ScopeTable<Denoted>, constant: Constant) -> Result<(), FlatFault>
+    ensures { OnOk result (table.new ≡ heads.with_constant constant table.old) }
+{
+    let fixed = Fixed {
+        kind: constant.kind,
+        value: constant.value,
+    };
+    table.declare(constant.name, Denoted::Constant(fixed))?;
+    Ok(())
 }
