@@ -41,6 +41,14 @@ mapped_more f g start xs ys x done y is same sofar =
 pub begins_first : {X : Type 0} (front xs ys : List X) → xs ≡ [] → ys ≡ xs ++ front → Begins front ys
 begins_first front xs ys none is = record { rest = []; is = is ∙ ap (λ l. l ++ front) none ∙ sym (append-nil front) }
 
--- what begins with a list still does when more is laid down
-pub begins_more : {X : Type 0} {front : List X} (xs ys more : List X) → ys ≡ xs ++ more → Begins front xs → Begins front ys
-begins_more {front = front} xs ys more is h = record { rest = h.rest ++ more; is = is ∙ ap (λ l. l ++ more) h.is ∙ append_assoc front h.rest more }
+-- a list begins with itself
+pub begins_itself : {X : Type 0} (xs : List X) → Begins xs xs
+begins_itself xs = record { rest = []; is = sym (append-nil xs) }
+
+-- what more is laid down stands behind
+pub begins_more : {X : Type 0} (xs ys more : List X) → ys ≡ xs ++ more → Begins xs ys
+begins_more xs ys more is = record { rest = more; is = is }
+
+-- a list that begins with one that begins with a third
+pub begins_through : {X : Type 0} {xs ys zs : List X} → Begins xs ys → Begins ys zs → Begins xs zs
+begins_through {xs = xs} h k = record { rest = h.rest ++ k.rest; is = k.is ∙ ap (λ l. l ++ k.rest) h.is ∙ append_assoc xs h.rest k.rest }

@@ -1,9 +1,10 @@
 ghost use Rattle.std.specs.Prelude.{◌≡◌, true, Some, map, IfOk};
 ghost use Rattle.std.specs.List.{All, list_all};
 ghost use Rattle.rtl_flat.specs.Imports as imports;
-ghost use Rattle.rtl_flat.specs.Laid.{VarStands, MemStands, ScopeByScope, flat_scope_of, var_scope, mem_scope};
+ghost use Rattle.rtl_flat.specs.Laid.{VarStands, MemStands, ScopeByScope, Begins, typed, flat_scope_of, var_scope, mem_scope};
 ghost use Rattle.rtl_flat.specs.Ports as ports;
-ghost use Rattle.rtl_flat.specs.PortVars.{ArePortVars};
+ghost use Rattle.rtl_flat.specs.PortVars.{ArePortVars, ports_in as port_vars_in};
+ghost use Rattle.rtl_lower.specs.Kinds.{environment_of};
 ghost use Rattle.rtl_flat.specs.Edges.{has_bit_events};
 
 use crate::edges::have_bit_events;
@@ -19,7 +20,7 @@ use rtl_lower::FlatFault;
 use sqlite_items::Items;
 use std::alloc::Global;
 use sv_elab::{Scope, Scopes};
-use sv_tree::{Description, Import as TreeImport, Names, NoMemory, SourceTree};
+use sv_tree::{Description, Import as TreeImport, Module, Names, NoMemory, SourceTree};
 
 /// The flat design of a tree whose scopes these are.
 ///
@@ -64,15 +65,29 @@ fn flattened(
     ensures mems_order { IfOk result (λ d. ScopeByScope mem_scope d.mems) }
 {
     let texts = imports_in(alloc, tree)?;
-    let imports = flat_imports(alloc, names, texts.as_slice())?;
-    let parts = parts_of(
-        alloc,
-        tree,
-        names,
-        scopes,
-        imports.as_slice(),
-        texts.as_slice(),
-    )?;
+    of_imports(alloc, tree, names, scopes, texts.as_slice())
+}
+
+/// The flat design, whose imports stand at these places of the tree.
+fn of_imports(
+    alloc: Global,
+    tree: &SourceTree,
+    names: &Names,
+    scopes: &[Scope],
+    texts: &[&TreeImport],
+) -> Result<Design, FlatFault>
+    ensures scopes { IfOk result (λ d. d.scopes ≡ map flat_scope_of scopes.now) }
+    ensures imports { IfOk result (λ d. map imports.told d.imports ≡ map (λ x. imports.told_of names.now x.now) texts.now) }
+    ensures ports { IfOk result (λ d. ports.top_ports names.now tree.now.descriptions scopes.now ≡ Some d.ports) }
+    ensures port_vars { IfOk result (λ d. ArePortVars names.now tree.now.descriptions scopes.now d.vars) }
+    ensures events { IfOk result (λ d. list_all (has_bit_events d.vars) d.procs ≡ true) }
+    ensures vars { IfOk result (λ d. All (VarStands scopes.now) d.vars) }
+    ensures mems { IfOk result (λ d. All (MemStands scopes.now) d.mems) }
+    ensures vars_order { IfOk result (λ d. ScopeByScope var_scope d.vars) }
+    ensures mems_order { IfOk result (λ d. ScopeByScope mem_scope d.mems) }
+{
+    let imports = flat_imports(alloc, names, texts)?;
+    let parts = parts_of(alloc, tree, names, scopes, imports.as_slice(), texts)?;
     whole(alloc, scopes, parts, imports)
 }
 
@@ -102,11 +117,8 @@ fn parts_of(
     ensures mems_order { IfOk result (λ parts. ScopeByScope mem_scope parts.variables.mems) }
 {
     let variables = declared(alloc, tree, names, scopes)?;
-    let procs = processes(alloc, tree, names, scopes, &variables, imports, texts)?;
-    if !have_bit_events(variables.vars.as_slice(), procs.as_slice()) {
-        return Err(FlatFault::NotElaborated);
-    }
     let ports = ports_in(alloc, tree, names, scopes)?;
+    let procs = processes(alloc, tree, names, scopes, &variables, imports, texts)?;
     Ok(Parts {
         variables,
         procs,
@@ -129,9 +141,24 @@ fn declared(
 {
     let mut walk = Walk::new(alloc, tree, names, scopes, &[])?;
     let top = walk.enter_top()?;
-    let view = walk.present.inside.view();
-    let ports = port_vars(alloc, &view, top)?;
-    let held = declarations_of(alloc, &mut walk)?;
+    declared_from(alloc, scopes, &mut walk, top)
+}
+
+/// The variables and memories, where a walk has entered the top, which is of this module.
+fn declared_from(
+    alloc: Global,
+    scopes: &[Scope],
+    walk: &mut Walk<'_>,
+    top: &Module,
+) -> Result<Variables, FlatFault>
+    ensures ports { IfOk result (λ variables. Begins (port_vars_in (environment_of walk.old.present.inside.names.now walk.old.present.inside.table) (ports.list_of top.now.ports)) (map typed variables.vars)) }
+    ensures vars { IfOk result (λ variables. All (VarStands scopes.now) variables.vars) }
+    ensures mems { IfOk result (λ variables. All (MemStands scopes.now) variables.mems) }
+    ensures vars_order { IfOk result (λ variables. ScopeByScope var_scope variables.vars) }
+    ensures mems_order { IfOk result (λ variables. ScopeByScope mem_scope variables.mems) }
+{
+    let ports = port_vars(alloc, &walk.present.inside.view(), top)?;
+    let held = declarations_of(alloc, walk)?;
     laid_down(alloc, scopes, ports, held)
 }
 
@@ -144,9 +171,26 @@ fn processes(
     variables: &Variables,
     imports: &[Import],
     texts: &[&TreeImport],
+) -> Result<Items<Proc>, FlatFault>
+    ensures { IfOk result (λ procs. list_all (has_bit_events variables.now.vars) procs ≡ true) }
+{
+    let procs = lowered(alloc, tree, names, scopes, variables, imports, texts)?;
+    if !have_bit_events(variables.vars.as_slice(), procs.as_slice()) {
+        return Err(FlatFault::NotElaborated);
+    }
+    Ok(procs)
+}
+
+/// The processes as the walk over them makes them.
+fn lowered(
+    alloc: Global,
+    tree: &SourceTree,
+    names: &Names,
+    scopes: &[Scope],
+    variables: &Variables,
+    imports: &[Import],
+    texts: &[&TreeImport],
 ) -> Result<Items<Proc>, FlatFault> {
-    let mut walk = Walk::new(alloc, tree, names, scopes, imports)?;
-    declare_imports(&mut walk, tree, texts)?;
     let mut pass = Lowering {
         alloc,
         vars: variables.vars.as_slice(),
@@ -156,8 +200,22 @@ fn processes(
         places: Places::none(alloc, names.len())?,
         procs: Items::new(alloc),
     };
-    walk.run(&mut pass)?;
+    lower(alloc, tree, names, scopes, imports, &mut pass)?;
     Ok(pass.procs)
+}
+
+/// Lets a pass go over the processes.
+fn lower(
+    alloc: Global,
+    tree: &SourceTree,
+    names: &Names,
+    scopes: &[Scope],
+    imports: &[Import],
+    pass: &mut Lowering<'_>,
+) -> Result<(), FlatFault> {
+    let mut walk = Walk::new(alloc, tree, names, scopes, imports)?;
+    declare_imports(&mut walk, tree, pass.texts)?;
+    walk.run(pass)
 }
 
 /// Declares the imports of the file level.

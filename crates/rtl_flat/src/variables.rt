@@ -317,31 +317,62 @@ pub fn laid_down(
     ensures vars_order { IfOk result (λ variables. ScopeByScope var_scope variables.vars) }
     ensures mems_order { IfOk result (λ variables. ScopeByScope mem_scope variables.mems) }
 {
-    let mut vars = Items::new(alloc);
-    let mut mems = Items::new(alloc);
-    let mut extents = Vec::new(alloc);
+    let mut all = Variables {
+        vars: Items::new(alloc),
+        mems: Items::new(alloc),
+        extents: Vec::new(alloc),
+    };
+    put_vars(alloc, scopes, 0, ports, &mut all.vars)?;
+    put_scopes(alloc, scopes, declared, &mut all)?;
+    Ok(all)
+}
+
+/// Adds what the scopes declare, those from the first one on.
+fn put_scopes(
+    alloc: Global,
+    scopes: &[Scope],
+    declared: Vec<Held>,
+    all: &mut Variables,
+) -> Result<(), FlatFault>
+    requires vars { VarsUpTo scopes.now 0 all.old.vars }
+    requires mems { MemsUpTo scopes.now 0 all.old.mems }
+    ensures grows { OnOk result (Begins (map typed all.old.vars) (map typed all.new.vars)) }
+    ensures vars { OnOk result (All (VarStands scopes.now) all.new.vars) }
+    ensures mems { OnOk result (All (MemStands scopes.now) all.new.mems) }
+    ensures vars_order { OnOk result (ScopeByScope var_scope all.new.vars) }
+    ensures mems_order { OnOk result (ScopeByScope mem_scope all.new.mems) }
+{
     let mut scope: u32 = 0;
     let mut extent = Extent {
         first_var: 0,
         first_mem: 0,
     };
-    put_vars(alloc, scopes, scope, ports, &mut vars)?;
     for held in declared {
-        let Held {
-            vars: some_vars,
-            mems: some_mems,
-        } = held;
-        put_vars(alloc, scopes, scope, some_vars, &mut vars)?;
-        put_mems(alloc, scopes, scope, some_mems, &mut mems)?;
-        put_extent(extent, &mut extents)?;
-        extent = extent_after(vars.len(), mems.len())?;
+        put_extent(extent, &mut all.extents)?;
+        extent = put_scope(alloc, scopes, scope, held, all)?;
         scope = scope.saturating_add(1);
     }
-    Ok(Variables {
-        vars,
-        mems,
-        extents,
-    })
+    Ok(())
+}
+
+/// Adds what the scope of this number declares, and gives where the next one begins.
+fn put_scope(
+    alloc: Global,
+    scopes: &[Scope],
+    scope: u32,
+    held: Held,
+    all: &mut Variables,
+) -> Result<Extent, FlatFault>
+    requires vars { VarsUpTo scopes.now scope all.old.vars }
+    requires mems { MemsUpTo scopes.now scope all.old.mems }
+    ensures grows { OnOk result (Begins (map typed all.old.vars) (map typed all.new.vars)) }
+    ensures vars { OnOk result (VarsUpTo scopes.now scope all.new.vars) }
+    ensures mems { OnOk result (MemsUpTo scopes.now scope all.new.mems) }
+{
+    let Held { vars, mems } = held;
+    put_vars(alloc, scopes, scope, vars, &mut all.vars)?;
+    put_mems(alloc, scopes, scope, mems, &mut all.mems)?;
+    extent_after(all.vars.len(), all.mems.len())
 }
 
 /// The beginning of a scope before which there are so many variables and memories.
