@@ -372,7 +372,8 @@ fn put_scope(
     let Held { vars, mems } = held;
     put_vars(alloc, scopes, scope, vars, &mut all.vars)?;
     put_mems(alloc, scopes, scope, mems, &mut all.mems)?;
-    extent_after(all.vars.len(), all.mems.len())
+    let next = extent_after(all.vars.len(), all.mems.len())?;
+    Ok(next)
 }
 
 /// The beginning of a scope before which there are so many variables and memories.
