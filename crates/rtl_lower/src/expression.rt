@@ -108,6 +108,17 @@ fn contexts_of(
     }
 }
 
+/// The contexts of the operands of a level by the class of its operators.
+fn level_contexts(
+    first: &Tree,
+    more: &[Step],
+    here: &Here<'_>,
+    kind: Kind,
+) -> Result<Contexts, FlatFault> {
+    let class = class_of(more, here)?;
+    contexts_of(first, more, here, class, kind)
+}
+
 /// The context of the first of compared operands.
 fn first_compared(own: Kind, more: &[Step], here: &Here<'_>) -> Result<Kind, FlatFault> {
     let Some(step) = more.first() else {
@@ -117,28 +128,50 @@ fn first_compared(own: Kind, more: &[Step], here: &Here<'_>) -> Result<Kind, Fla
     Ok(wider(own, second))
 }
 
-/// The class of the operators of a level.
-fn class_of(more: &[Step], here: &Here<'_>) -> Class {
-    match more.first() {
-        Some(step) => binary(here.view.names, step.mark).class(),
-        None => Class::Arithmetic,
+/// The operator of a step of a level.
+fn operator_of(step: &Step, here: &Here<'_>) -> Result<BinaryOp, FlatFault> {
+    match binary(here.view.names, step.mark) {
+        Some(operator) => Ok(operator),
+        None => Err(FlatFault::NotElaborated),
     }
+}
+
+/// The class of the operators of a level, which all have one (IEEE 1800-2017 table 11-2).
+fn class_of(more: &[Step], here: &Here<'_>) -> Result<Class, FlatFault> {
+    let Some(step) = more.first() else {
+        return Ok(Class::Arithmetic);
+    };
+    let class = operator_of(step, here)?.class();
+    for step in more {
+        if operator_of(step, here)?.class() != class {
+            return Err(FlatFault::NotElaborated);
+        }
+    }
+    Ok(class)
 }
 
 /// The operators of a level.
 fn operators(more: &[Step], here: &Here<'_>) -> Result<Items<BinaryOp>, FlatFault> {
     let mut all = Items::new(here.alloc);
     for step in more {
-        all.push(binary(here.view.names, step.mark))?;
+        all.push(operator_of(step, here)?)?;
     }
     Ok(all)
+}
+
+/// The operator of a mark before an operand.
+fn prefix_of(mark: Token, here: &Here<'_>) -> Result<UnaryOp, FlatFault> {
+    match unary(here.view.names, mark) {
+        Some(operator) => Ok(operator),
+        None => Err(FlatFault::NotElaborated),
+    }
 }
 
 /// Operators before an operand, the outermost first.
 fn prefixes(marks: &[Token], here: &Here<'_>) -> Result<Items<UnaryOp>, FlatFault> {
     let mut all = Items::new(here.alloc);
     for mark in marks {
-        all.push(unary(here.view.names, *mark))?;
+        all.push(prefix_of(*mark, here)?)?;
     }
     Ok(all)
 }
@@ -151,7 +184,7 @@ fn prefixed_kind(
     kind: Kind,
 ) -> Result<Kind, FlatFault> {
     for mark in marks {
-        if unary(here.view.names, *mark).is_reduction() {
+        if prefix_of(*mark, here)?.is_reduction() {
             return kind_of(operand, here);
         }
     }
@@ -223,7 +256,7 @@ pub fn lower(expr: &Tree, here: &Here<'_>, kind: Kind) -> Result<Expr, FlatFault
         }
         Tree::Level { first, more } => {
             let more = more.as_slice();
-            let contexts = contexts_of(first.get(), more, here, class_of(more, here), kind)?;
+            let contexts = level_contexts(first.get(), more, here, kind)?;
             let first = lower(first.get(), here, contexts.first)?;
             ExprNode::Level(
                 operands(more, here, first, contexts.rest)?,

@@ -25,8 +25,9 @@
 //! # Where it answers without a part of a design
 //!
 //! [`FlatFault::NoMemory`] where there was none left, and [`FlatFault::NotElaborated`] where what comes in is no part of
-//! an accepted design: an expression has a fault, a name denotes nothing that its place can use, a width is none, or a loop
-//! has more turns than there may be. No value is made up in their stead.
+//! an accepted design: an expression has a fault, a mark is no operator, the operators of one level are of two classes, a name
+//! denotes nothing that its place can use, a width is none, or a loop has more turns than there may be. No value is made up
+//! in their stead.
 //!
 //! # What is proved
 //!

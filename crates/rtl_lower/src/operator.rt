@@ -4,53 +4,55 @@ use rtl_ir::{BinaryOp, UnaryOp};
 use sv_expr::symbol;
 use sv_tree::{Names, Symbol, Token};
 
-/// An operator before its operand.
-pub fn unary(names: &Names, mark: Token) -> UnaryOp {
+/// An operator before its operand. `None`: the mark is none.
+pub fn unary(names: &Names, mark: Token) -> Option<UnaryOp> {
     match symbol(names, mark) {
-        Symbol::Minus => UnaryOp::Minus,
-        Symbol::Bang => UnaryOp::Not,
-        Symbol::Tilde => UnaryOp::Invert,
-        Symbol::Amp => UnaryOp::And,
-        Symbol::TildeAmp => UnaryOp::Nand,
-        Symbol::Pipe => UnaryOp::Or,
-        Symbol::TildePipe => UnaryOp::Nor,
-        Symbol::Caret => UnaryOp::Xor,
-        Symbol::TildeCaret | Symbol::CaretTilde => UnaryOp::Xnor,
-        _ => UnaryOp::Plus,
+        Symbol::Plus => Some(UnaryOp::Plus),
+        Symbol::Minus => Some(UnaryOp::Minus),
+        Symbol::Bang => Some(UnaryOp::Not),
+        Symbol::Tilde => Some(UnaryOp::Invert),
+        Symbol::Amp => Some(UnaryOp::And),
+        Symbol::TildeAmp => Some(UnaryOp::Nand),
+        Symbol::Pipe => Some(UnaryOp::Or),
+        Symbol::TildePipe => Some(UnaryOp::Nor),
+        Symbol::Caret => Some(UnaryOp::Xor),
+        Symbol::TildeCaret | Symbol::CaretTilde => Some(UnaryOp::Xnor),
+        _ => None,
     }
 }
 
-/// An operator with two operands.
-pub fn binary(names: &Names, mark: Token) -> BinaryOp {
+/// An operator with two operands. `None`: the mark is none.
+pub fn binary(names: &Names, mark: Token) -> Option<BinaryOp> {
     let mark = symbol(names, mark);
     match mark {
-        Symbol::Star => BinaryOp::Mul,
-        Symbol::Slash => BinaryOp::Div,
-        Symbol::Percent => BinaryOp::Rem,
-        Symbol::Minus => BinaryOp::Sub,
-        Symbol::ShiftLeft => BinaryOp::Shl,
-        Symbol::ShiftRight => BinaryOp::Shr,
-        Symbol::ArithLeft => BinaryOp::AShl,
-        Symbol::ArithRight => BinaryOp::AShr,
-        Symbol::Amp => BinaryOp::And,
-        Symbol::Caret => BinaryOp::Xor,
-        Symbol::TildeCaret | Symbol::CaretTilde => BinaryOp::Xnor,
-        Symbol::Pipe => BinaryOp::Or,
-        Symbol::AmpAmp => BinaryOp::LogAnd,
-        Symbol::PipePipe => BinaryOp::LogOr,
+        Symbol::Star => Some(BinaryOp::Mul),
+        Symbol::Slash => Some(BinaryOp::Div),
+        Symbol::Percent => Some(BinaryOp::Rem),
+        Symbol::Plus => Some(BinaryOp::Add),
+        Symbol::Minus => Some(BinaryOp::Sub),
+        Symbol::ShiftLeft => Some(BinaryOp::Shl),
+        Symbol::ShiftRight => Some(BinaryOp::Shr),
+        Symbol::ArithLeft => Some(BinaryOp::AShl),
+        Symbol::ArithRight => Some(BinaryOp::AShr),
+        Symbol::Amp => Some(BinaryOp::And),
+        Symbol::Caret => Some(BinaryOp::Xor),
+        Symbol::TildeCaret | Symbol::CaretTilde => Some(BinaryOp::Xnor),
+        Symbol::Pipe => Some(BinaryOp::Or),
+        Symbol::AmpAmp => Some(BinaryOp::LogAnd),
+        Symbol::PipePipe => Some(BinaryOp::LogOr),
         _ => comparison(mark),
     }
 }
 
-/// A comparison, or `+`.
-fn comparison(mark: Symbol) -> BinaryOp {
+/// A comparison.
+fn comparison(mark: Symbol) -> Option<BinaryOp> {
     match mark {
-        Symbol::Less => BinaryOp::Lt,
-        Symbol::LessEqual => BinaryOp::Le,
-        Symbol::Greater => BinaryOp::Gt,
-        Symbol::GreaterEqual => BinaryOp::Ge,
-        Symbol::EqualEqual | Symbol::CaseEqual => BinaryOp::Eq,
-        Symbol::BangEqual | Symbol::CaseUnequal => BinaryOp::Ne,
-        _ => BinaryOp::Add,
+        Symbol::Less => Some(BinaryOp::Lt),
+        Symbol::LessEqual => Some(BinaryOp::Le),
+        Symbol::Greater => Some(BinaryOp::Gt),
+        Symbol::GreaterEqual => Some(BinaryOp::Ge),
+        Symbol::EqualEqual | Symbol::CaseEqual => Some(BinaryOp::Eq),
+        Symbol::BangEqual | Symbol::CaseUnequal => Some(BinaryOp::Ne),
+        _ => None,
     }
 }
