@@ -8,7 +8,7 @@ use crate::walk::{Pass, Present};
 use elab_parts::{Given, List, Places, list_of};
 use rtl_ir::{Event, Expr, Mem, Place, Proc, ProcKind, Stmt, Var};
 use rtl_lower::{
-    FlatFault, assigned_value, kind_of_import, of_declared, place_of, statement, target_kind,
+    FlatFault, Here, assigned_value, kind_of_import, of_declared, place_of, statement, target_kind,
     whole_variable,
 };
 use sqlite_items::Items;
@@ -107,6 +107,18 @@ impl Lowering<'_> {
         let mut body = Items::new(self.alloc);
         body.push(Stmt::Write(place, value))?;
         self.put(ProcKind::Comb, body, at)
+    }
+
+    /// Adds the process that assigns a value to a whole variable.
+    fn put_driver(
+        &mut self,
+        item: u32,
+        value: Expr,
+        here: &Here<'_>,
+        at: Origin,
+    ) -> Result<(), FlatFault> {
+        let place = whole_variable(item, here)?;
+        self.put_assignment(place, value, at)
     }
 
     // ---- names
@@ -224,8 +236,7 @@ impl Lowering<'_> {
     ) -> Result<(), FlatFault> {
         let here = present.inside.here();
         let value = assigned_value(&initial.value, &here, of_declared(declared).width)?;
-        let place = whole_variable(declared.item, &here)?;
-        self.put_assignment(place, value, at)
+        self.put_driver(declared.item, value, &here, at)
     }
 
     /// Continuous assignments.
@@ -248,8 +259,7 @@ impl Lowering<'_> {
         assignment: &Assignment,
     ) -> Result<(), FlatFault> {
         let here = present.inside.here();
-        let width = target_kind(&assignment.target, &here)?.width;
-        let value = assigned_value(&assignment.value, &here, width)?;
+        let value = value_of(assignment, &here)?;
         let place = place_of(&assignment.target, &here)?;
         self.put_assignment(place, value, first_of(&assignment.target))
     }
@@ -355,11 +365,11 @@ impl Lowering<'_> {
             Given::Nothing => Ok(()),
             Given::Value(expr) => {
                 let value = assigned_value(expr, &here, width)?;
-                self.put_assignment(whole_variable(port.item, &here)?, value, at)
+                self.put_driver(port.item, value, &here, at)
             }
             Given::Same(name) => {
                 let value = named_value(name, &here, width)?;
-                self.put_assignment(whole_variable(port.item, &here)?, value, at)
+                self.put_driver(port.item, value, &here, at)
             }
         }
     }
@@ -427,6 +437,12 @@ fn event(present: &Present<'_>, event: TreeEvent) -> Result<Event, FlatFault> {
         }),
         _ => Err(FlatFault::NotElaborated),
     }
+}
+
+/// The value of an assignment, at the width that its left side gives it.
+fn value_of(assignment: &Assignment, here: &Here<'_>) -> Result<Expr, FlatFault> {
+    let width = target_kind(&assignment.target, here)?.width;
+    assigned_value(&assignment.value, here, width)
 }
 
 /// The place of the first token of a left side.
