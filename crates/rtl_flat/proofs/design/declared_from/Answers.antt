@@ -1,4 +1,4 @@
-use Rattle.std.proofs.Common.{◌≡◌, map, ap, ◌∙◌, subst}
+use Rattle.std.proofs.Common.{map, ap, ◌∙◌, subst}
 use Rattle.std.proofs.lemmas.Result.{IfOk-weaker}
 use Rattle.rtl_lower.specs.Kinds.{environment_of}
 use Rattle.rtl_flat.specs.Laid.{Begins, typed, held_typed}
