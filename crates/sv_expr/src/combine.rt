@@ -159,7 +159,6 @@ pub fn part_typed(
 }
 
 /// The type of the bits from one index down to another.
-#[tactic(auto, using(crate::proofs::Nearest::down_near))]
 fn down_typed(at: Origin, earlier: Option<WalkFault>, from: Whole, to: Whole) -> Typed
     ensures typed { result ≡ ranged_type at earlier ((from -ℤ to) +ℤ pos 1) }
     ensures width { IsWidth result.kind.width }
@@ -168,7 +167,6 @@ fn down_typed(at: Origin, earlier: Option<WalkFault>, from: Whole, to: Whole) ->
 }
 
 /// The type of so many bits.
-#[tactic(auto, using(crate::proofs::Nearest::count_near))]
 fn counted_typed(at: Origin, earlier: Option<WalkFault>, count: Whole) -> Typed
     ensures typed { result ≡ ranged_type at earlier count }
     ensures width { IsWidth result.kind.width }
@@ -177,7 +175,6 @@ fn counted_typed(at: Origin, earlier: Option<WalkFault>, count: Whole) -> Typed
 }
 
 /// The type of so many times a width.
-#[tactic(auto, using(crate::proofs::Nearest::times_near))]
 pub fn times_typed(at: Origin, earlier: Option<WalkFault>, count: &Own, width: u32) -> Typed
     ensures typed { result ≡ ranged_type at earlier (number_reading count.now.signed count.now.value *ℤ pos width) }
     ensures width { IsWidth result.kind.width }
@@ -186,7 +183,6 @@ pub fn times_typed(at: Origin, earlier: Option<WalkFault>, count: &Own, width: u
 }
 
 /// Whether a type may have so many times a width.
-#[tactic(auto, using(crate::proofs::Nearest::fits_near))]
 fn times_fits(count: &Own, width: u32) -> bool
     ensures { result ≡ is_type_width (whole_part (number_reading count.now.signed count.now.value *ℤ pos width)) }
 {
