@@ -163,7 +163,16 @@ fn down_typed(at: Origin, earlier: Option<WalkFault>, from: Whole, to: Whole) ->
     ensures typed { result ≡ ranged_type at earlier ((from -ℤ to) +ℤ pos 1) }
     ensures width { IsWidth result.kind.width }
 {
-    ranged(at, earlier, i128::from(from.minus(to)) + 1)
+    near_down_typed(at, earlier, from, to)
+}
+
+/// The same with the nearest difference of 64 bits with a sign.
+fn near_down_typed(at: Origin, earlier: Option<WalkFault>, from: Whole, to: Whole) -> Typed
+    ensures typed { result ≡ ranged_type at earlier (nearest (from -ℤ to) +ℤ pos 1) }
+    ensures width { IsWidth result.kind.width }
+{
+    let bits = i128::from(from.minus(to)) + 1;
+    ranged(at, earlier, bits)
 }
 
 /// The type of so many bits.
@@ -171,7 +180,16 @@ fn counted_typed(at: Origin, earlier: Option<WalkFault>, count: Whole) -> Typed
     ensures typed { result ≡ ranged_type at earlier count }
     ensures width { IsWidth result.kind.width }
 {
-    ranged(at, earlier, i128::from(count.nearest()))
+    near_counted_typed(at, earlier, count)
+}
+
+/// The same with the nearest count of 64 bits with a sign.
+fn near_counted_typed(at: Origin, earlier: Option<WalkFault>, count: Whole) -> Typed
+    ensures typed { result ≡ ranged_type at earlier (nearest count) }
+    ensures width { IsWidth result.kind.width }
+{
+    let bits = i128::from(count.nearest());
+    ranged(at, earlier, bits)
 }
 
 /// The type of so many times a width.
@@ -179,20 +197,30 @@ pub fn times_typed(at: Origin, earlier: Option<WalkFault>, count: &Own, width: u
     ensures typed { result ≡ ranged_type at earlier (number_reading count.now.signed count.now.value *ℤ pos width) }
     ensures width { IsWidth result.kind.width }
 {
-    ranged(at, earlier, times(reading(count), width))
+    near_times_typed(at, earlier, reading(count), width)
+}
+
+/// The same with the nearest count of 64 bits with a sign.
+fn near_times_typed(at: Origin, earlier: Option<WalkFault>, count: Whole, width: u32) -> Typed
+    ensures typed { result ≡ ranged_type at earlier (nearest count *ℤ pos width) }
+    ensures width { IsWidth result.kind.width }
+{
+    let bits = times(count, width);
+    ranged(at, earlier, bits)
 }
 
 /// Whether a type may have so many times a width.
 fn times_fits(count: &Own, width: u32) -> bool
     ensures { result ≡ is_type_width (whole_part (number_reading count.now.signed count.now.value *ℤ pos width)) }
 {
-    is_times_width(times(reading(count), width))
+    near_times_fits(reading(count), width)
 }
 
-/// Whether a type may have so many bits.
-fn is_times_width(bits: i128) -> bool
-    ensures { result ≡ is_type_width (whole_part bits) }
+/// The same with the nearest count of 64 bits with a sign.
+fn near_times_fits(count: Whole, width: u32) -> bool
+    ensures { result ≡ is_type_width (whole_part (nearest count *ℤ pos width)) }
 {
+    let bits = times(count, width);
     1 <= bits && bits <= i128::from(limits::WIDTH)
 }
 

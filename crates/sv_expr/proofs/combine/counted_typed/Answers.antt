@@ -4,4 +4,4 @@ use Rattle.sv_expr.proofs.combine.counted_typed.Goals as goal
 
 pub returns-clause-typed : goal.returns-clause-typed
 returns-clause-typed c =
-    rw (c.from.ensures, c.nearest.ensures) at c.ranged.ensures.typed ∙ count_near c.args.at c.args.earlier c.args.count
+    c.near_counted_typed.ensures.typed ∙ count_near c.args.at c.args.earlier c.args.count
