@@ -329,8 +329,8 @@ own-returns-in-Paren-clause-fault t c =
     let env : Environment = environment c.args.scope.now in
     fault_by env c.in-Paren.is (expr-Paren env _ _ _) (rw c.get.ensures at c.own.ensures.fault)
 
-pub own-times_own-requires-clause-whole : goal.own-times_own-requires-clause-whole
-own-times_own-requires-clause-whole t c = λ within.
+pub own-times_own-requires : goal.own-times_own-requires
+own-times_own-requires t c = λ within.
     let env : Environment = environment c.args.scope.now in
     let reads = rw c.get-in-Repeat.ensures at c.own-count.ensures.reading in
     let first = rw c.get-in-Repeat-2.ensures at c.typed.ensures.typed in
