@@ -330,17 +330,19 @@ own-returns-in-Paren-clause-fault t c =
     fault_by env c.in-Paren.is (expr-Paren env _ _ _) (rw c.get.ensures at c.own.ensures.fault)
 
 pub own-times_own-requires : goal.own-times_own-requires
-own-times_own-requires t c = λ within.
-    let env : Environment = environment c.args.scope.now in
-    let reads = rw c.get-in-Repeat.ensures at c.own-count.ensures.reading in
-    let first = rw c.get-in-Repeat-2.ensures at c.typed.ensures.typed in
-    let parts = rw (first, c.as_slice.ensures) at c.parts_typed-parts.ensures in
-    let small = rw first at c.typed.ensures.width in
-    let start = rw c.get-in-Repeat-3.ensures at c.alone.ensures.value in
-    let width = rw start at (rw c.get-in-Repeat-3.ensures at c.alone.ensures.width) in
-    let joins = rw (start, c.as_slice-in-Repeat.ensures) at c.parts_value-value.ensures in
-    parts_whole env (own_reading (meaning_of env c.in-Repeat.count)) (meaning_of env c.in-Repeat.first) c.in-Repeat.more c.parts_value-value.result small width joins (rw (reads, parts) at within)
-    ∙ sym (ap (λ (t : Typed). t.kind.width) parts)
+own-times_own-requires t c = record {
+  whole = λ within.
+      let env : Environment = environment c.args.scope.now in
+      let reads = rw c.get-in-Repeat.ensures at c.own-count.ensures.reading in
+      let first = rw c.get-in-Repeat-2.ensures at c.typed.ensures.typed in
+      let parts = rw (first, c.as_slice.ensures) at c.parts_typed-parts.ensures in
+      let small = rw first at c.typed.ensures.width in
+      let start = rw c.get-in-Repeat-3.ensures at c.alone.ensures.value in
+      let width = rw start at (rw c.get-in-Repeat-3.ensures at c.alone.ensures.width) in
+      let joins = rw (start, c.as_slice-in-Repeat.ensures) at c.parts_value-value.ensures in
+      parts_whole env (own_reading (meaning_of env c.in-Repeat.count)) (meaning_of env c.in-Repeat.first) c.in-Repeat.more c.parts_value-value.result small width joins (rw (reads, parts) at within)
+      ∙ sym (ap (λ (t : Typed). t.kind.width) parts);
+}
 
 pub own-returns-in-Repeat-clause-reading : goal.own-returns-in-Repeat-clause-reading
 own-returns-in-Repeat-clause-reading t c =
