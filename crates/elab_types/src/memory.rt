@@ -63,16 +63,24 @@ fn of_ends(at: Origin, left: Whole, right: Whole) -> Result<Bounds, WalkFault>
     ensures bounds { IfOk result (λ found. memory.addresses found ≡ memory.ascending (memory.lesser left right) (memory.greater left right)) }
     ensures fault { fault_in result ≡ memory.ends_fault at (memory.lesser left right) (memory.greater left right) }
 {
-    let Some(left) = left.in_word() else {
-        return Err(WalkFault::BadRange(at));
-    };
-    let Some(right) = right.in_word() else {
-        return Err(WalkFault::BadRange(at));
-    };
-    if left < right {
-        return ascending(at, i128::from(left), i128::from(right));
+    if left.less(right) {
+        return upwards(at, left, right);
     }
-    ascending(at, i128::from(right), i128::from(left))
+    upwards(at, right, left)
+}
+
+/// The addresses from one to another.
+fn upwards(at: Origin, low: Whole, high: Whole) -> Result<Bounds, WalkFault>
+    ensures bounds { IfOk result (λ found. memory.addresses found ≡ memory.ascending low high) }
+    ensures fault { fault_in result ≡ memory.ends_fault at low high }
+{
+    let Some(low) = low.in_word() else {
+        return Err(WalkFault::BadRange(at));
+    };
+    let Some(high) = high.in_word() else {
+        return Err(WalkFault::BadRange(at));
+    };
+    ascending(at, i128::from(low), i128::from(high))
 }
 
 /// The addresses from one to another that is none below it but for no element at all.
