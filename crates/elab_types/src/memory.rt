@@ -80,7 +80,17 @@ fn upwards(at: Origin, low: Whole, high: Whole) -> Result<Bounds, WalkFault>
     let Some(high) = high.in_word() else {
         return Err(WalkFault::BadRange(at));
     };
-    ascending(at, i128::from(low), i128::from(high))
+    words_upwards(at, low, high)
+}
+
+/// The addresses from one of 64 bits with a sign to another.
+fn words_upwards(at: Origin, low: i64, high: i64) -> Result<Bounds, WalkFault>
+    ensures bounds { IfOk result (λ found. memory.addresses found ≡ memory.ascending low high) }
+    ensures fault { fault_in result ≡ memory.ends_fault at low high }
+{
+    let low = i128::from(low);
+    let high = i128::from(high);
+    ascending(at, low, high)
 }
 
 /// The addresses from one to another that is none below it but for no element at all.
