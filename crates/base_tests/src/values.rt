@@ -1,9 +1,7 @@
 //! Each call on values once or a few times.
 
 use std::test::Fail;
-use vs_base::{
-    Act, Bits, Text, ValueType, Whole, assignment_context, in_context, limits, wider,
-};
+use vs_base::{Act, Bits, Text, ValueType, Whole, assignment_context, in_context, limits, wider};
 
 fn of(width: u32, signed: bool) -> ValueType {
     ValueType { width, signed }
