@@ -68,22 +68,22 @@ mark_more B old mid new b bit t e f g =
     ∙ join old (ltb b bit && B b) (eqb b bit && B b)
     ∙ ap (λ (x : Bool). old || x) (up_to b bit (B b))
 
-spread : (old in one rest : Bool) → ((old || (in && one)) || (in && rest)) ≡ (old || (in && (one || rest)))
-spread true in one rest = refl
+spread : (old at one rest : Bool) → ((old || (at && one)) || (at && rest)) ≡ (old || (at && (one || rest)))
+spread true at one rest = refl
 spread false true one rest = refl
 spread false false one rest = refl
 
 -- what this element marks, and the elements after it
-pub element_more : (writer : ℕ → Option ℕ) (item : Item) (b e n : ℕ) (in mid new all : Bool) → e < n → new ≡ (mid || (in && begins writer (place_in item e 0) b))
-    → (mid || (in && is_cut writer item b e (n - e))) ≡ all → (new || (in && is_cut writer item b (e + 1) (n - (e + 1)))) ≡ all
-element_more writer item b e n in mid new all h f g =
+pub element_more : (writer : ℕ → Option ℕ) (item : Item) (b e n : ℕ) (at mid new all : Bool) → e < n → new ≡ (mid || (at && begins writer (place_in item e 0) b))
+    → (mid || (at && is_cut writer item b e (n - e))) ≡ all → (new || (at && is_cut writer item b (e + 1) (n - (e + 1)))) ≡ all
+element_more writer item b e n at mid new all h f g =
     let m : n - e ≡ suc (n - (e + 1)) = omega arith in
     let s : suc e ≡ e + 1 = omega arith in
     let next : is_cut writer item b e (n - e) ≡ (begins writer (place_in item e 0) b || is_cut writer item b (e + 1) (n - (e + 1))) =
     ap (is_cut writer item b e) m ∙ ap (λ (i : ℕ). begins writer (place_in item e 0) b || is_cut writer item b i (n - (e + 1))) s in
-    ap (λ (x : Bool). x || (in && is_cut writer item b (e + 1) (n - (e + 1)))) f
-    ∙ spread mid in (begins writer (place_in item e 0) b) (is_cut writer item b (e + 1) (n - (e + 1)))
-    ∙ sym (ap (λ (x : Bool). mid || (in && x)) next) ∙ g
+    ap (λ (x : Bool). x || (at && is_cut writer item b (e + 1) (n - (e + 1)))) f
+    ∙ spread mid at (begins writer (place_in item e 0) b) (is_cut writer item b (e + 1) (n - (e + 1)))
+    ∙ sym (ap (λ (x : Bool). mid || (at && x)) next) ∙ g
 
 -- ---- pieces
 

@@ -1,9 +1,8 @@
 -- What an expression reads: the bits of each name in it, and what the indices of its selects read, where a constant reads nothing
 -- (IEEE 1800-2017 9.2.2.2.1).
-use Rattle.std.specs.Prelude.{ℕ, Bool, if◌then◌else◌, nat_le, List, [], ◌∷◌, ◌++◌, map, Option, Some, None, ℤ}
+use Rattle.std.specs.Prelude.{ℕ, Bool, if◌then◌else◌, List, [], ◌∷◌, ◌++◌, map, Option, Some, None, ℤ}
 use Rattle.std.specs.Option.{option_map}
 use Rattle.vs_base.specs.Number.{Number, reading}
-use Rattle.vs_base.specs.declared.limits.TheConstants.{WIDTH}
 use Rattle.rtl_ir.specs.declared.expr.Expr.{Expr}
 use Rattle.rtl_ir.specs.declared.expr.ExprNode.{ExprNode}
 use Rattle.rtl_ir.specs.declared.expr.Choice.{Choice}
@@ -76,9 +75,9 @@ abbrev pub taken_or_none : Option Taken → Notes
 taken_or_none (Some s) = s.reads
 taken_or_none None = nothing_more
 
--- a constant is no wider than a type
+-- the number that a constant stands for, read with or without a sign
 abbrev pub constant_of : Bool → Number → Option ℤ
-constant_of signed value = if nat_le value.width WIDTH then Some (reading signed value) else None
+constant_of signed value = Some (reading signed value)
 
 abbrev pub part : ℤ → ℕ → Bool → Part
 part at width down = record { at = at; width = width; down = down }

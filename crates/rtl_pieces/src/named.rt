@@ -37,7 +37,7 @@ fn clipped(first: u128, width: u32, lowest: i128, count: u32) -> BitRange
         };
     }
     BitRange {
-        from: first + distance,
+        from: first + distance.min(width),
         to: first + (distance + count).min(width),
     }
 }
