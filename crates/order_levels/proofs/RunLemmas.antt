@@ -6,7 +6,8 @@ use Rattle.plan_graph.specs.declared.node.Edge.{Edge}
 use Rattle.plan_graph.specs.Graphs.{ends_within, has_edge, is_among}
 use Rattle.plan_graph.specs.GraphLaws.{edge_ends}
 use Rattle.order_levels.specs.Settling.{first_below, is_ready, run_next, run_turns}
-use Rattle.order_levels.specs.Sets.{is_member, targets_of, waits_left, all_below}
+use Rattle.node_sets.specs.Sets.{is_member}
+use Rattle.order_levels.specs.Sets.{targets_of, waits_left, all_below}
 use Rattle.order_levels.specs.Running.{Running, CanRun}
 use Rattle.order_levels.proofs.FirstLemmas.{first_some, first_none}
 use Rattle.order_levels.proofs.EdgeLemmas.{among_push, targets_are, targets_below, counted_among, ready_by_count, one_less_waits, waits_at_first}

@@ -1,9 +1,11 @@
 -- What the lists, the counts and the set of the turns hold.
 use Rattle.std.specs.Prelude.{◌≡◌, ◌<◌, ◌≤◌, ℕ, ◌*◌, ◌==◌, nat_lt, true, ◌&&◌, List, [], length, slice_index, slice_index_or, count_by}
+use Rattle.std.specs.List.{list_all}
 use Rattle.plan_graph.specs.declared.node.Edge.{Edge}
-use Rattle.plan_graph.specs.Graphs.{is_among}
+use Rattle.plan_graph.specs.Graphs.{ends_within, is_among}
 use Rattle.order_levels.specs.Settling.{is_ready}
-use Rattle.order_levels.specs.Sets.{is_member, targets_of, waits_left, all_below}
+use Rattle.node_sets.specs.Sets.{is_member}
+use Rattle.order_levels.specs.Sets.{targets_of, waits_left, all_below}
 
 -- after these nodes have run
 pub record Running (nodes : ℕ) (edges : List Edge) (ran : List ℕ) (targets : List (List ℕ)) (waits words : List ℕ) : Type 0 where
@@ -26,3 +28,12 @@ pub record CanRun (targets : List (List ℕ)) (waits words : List ℕ) (n : ℕ)
   pub room : length waits ≤ 64 * length words
   pub within : all_below (length waits) (slice_index_or targets n []) ≡ true
   pub counted : (m : ℕ) → count_by (λ t. t == m) (slice_index_or targets n []) ≤ slice_index waits m
+
+-- a node is ready in the turns of some graph, after some nodes have run
+pub record IsReadyNow (targets : List (List ℕ)) (waits words : List ℕ) (n : ℕ) : Type 0 where
+  pub nodes : ℕ
+  pub edges : List Edge
+  pub ran : List ℕ
+  pub ends : list_all (ends_within nodes) edges ≡ true
+  pub running : Running nodes edges ran targets waits words
+  pub ready : is_member words n ≡ true

@@ -1,14 +1,9 @@
--- How the code holds sets, lists and counts of nodes.
-use Rattle.std.specs.Prelude.{ℕ, ◌+◌, ◌/◌, ◌%◌, ◌==◌, nat_lt, max, Bool, true, not, ◌&&◌, List, [], length, Option, slice_index, slice_index_or, slice_set, map, fold, count_by}
-use Rattle.std.specs.Int.{bit_at}
+-- How the code holds lists and counts of nodes.
+use Rattle.std.specs.Prelude.{ℕ, ◌+◌, ◌==◌, nat_lt, max, Bool, true, not, ◌&&◌, List, [], length, Option, slice_index, slice_index_or, slice_set, map, fold, count_by}
 use Rattle.std.specs.List.{filter, list_all}
 use Rattle.plan_graph.specs.declared.node.Edge.{Edge}
 use Rattle.plan_graph.specs.Graphs.{is_among}
 use Rattle.order_levels.specs.Settling.{first_below}
-
--- a set by bits: number n is bit n % 64 of word n / 64
-unfoldable pub is_member : List ℕ → ℕ → Bool
-is_member words n = bit_at (slice_index words (n / 64)) (n % 64) == 1
 
 -- where the edges to a node come from, and where those from it lead
 abbrev pub sources_of : ℕ → List Edge → List ℕ
@@ -41,3 +36,11 @@ level_over levels sources = fold (λ most m. max most (slice_index levels m + 1)
 
 abbrev pub levels_along : List (List ℕ) → List ℕ → List ℕ → List ℕ
 levels_along sources levels order = fold (λ so_far n. slice_set so_far n (level_over so_far (slice_index_or sources n []))) levels order
+
+-- the greatest of these at the sources, and 0 where there is none
+abbrev pub greatest_at : List ℕ → List ℕ → ℕ
+greatest_at paths sources = fold (λ most m. max most (slice_index paths m)) 0 sources
+
+-- each node of the order has its cost and what the costliest path to a source of it costs
+abbrev pub costs_along : List ℕ → List (List ℕ) → List ℕ → List ℕ → List ℕ
+costs_along costs sources paths order = fold (λ so_far n. slice_set so_far n (slice_index costs n + greatest_at so_far (slice_index_or sources n []))) paths order

@@ -7,7 +7,8 @@
 //! elaboration order, that has not run and waits for none that has not; IEEE 1800-2017 4.7 leaves the order open, and
 //! this one runs each process once. Where processes are left and none is ready, settling *stalls*, and the answer is
 //! a loop of processes that wait for each other. [`levels`] gives the number of edges of the longest path to each
-//! node. [`part_nodes`] makes the list of nodes of a part from a settle order, and [`has_too_many_nodes`] tells before
+//! node, and [`costliest_paths`] what the costliest path to it costs. [`Turns`] takes the same turns with nodes that the
+//! caller picks among the ready ones. [`part_nodes`] makes the list of nodes of a part from a settle order, and [`has_too_many_nodes`] tells before
 //! there is an order whether that list is too long.
 //!
 //! # Definitions
@@ -25,14 +26,15 @@
 //! and one from the count of each of its targets, and puts those that come to 0 into the set. The set has one bit a
 //! node ([`trailing_zeros`](u64::trailing_zeros) finds the least), so that a turn goes over one word for each 64 nodes.
 //! The walk keeps marks of the nodes that have run and that it has seen, and lists of where the edges to each node
-//! come from. Levels go along the order: each is one more than the greatest of the sources.
+//! come from. Levels and costliest paths go along the order: each stands over the greatest of the sources.
 //!
 //! # What is proved
 //!
 //! The settle order, or the loop, is that of the definition, whatever the edges. An order has each node once and each
 //! node after all that it has an edge from; the nodes of a loop have an edge each to the one before it, and the first
 //! to the last, so that there is an order exactly where there is no cycle. A level is the number of edges of some path
-//! to the node, and no path has more. The nodes of a part are the list of the definition, and the answer 'too many'
+//! to the node, and no path has more; a costliest path costs what some path does, and none costs more. After each of its
+//! turns [`Turns`] holds exactly the ready nodes. The nodes of a part are the list of the definition, and the answer 'too many'
 //! comes exactly past the limit. Left open is want of memory.
 //!
 //! # Cost
@@ -50,8 +52,8 @@
 mod fault;
 mod level;
 mod lists;
-mod node_set;
 mod order;
+mod path_cost;
 mod running;
 mod serial;
 mod stall;
@@ -59,4 +61,6 @@ mod stall;
 pub use fault::{LoopFault, NodesFault};
 pub use level::levels;
 pub use order::ready_order;
+pub use path_cost::costliest_paths;
+pub use running::Turns;
 pub use serial::{has_too_many_nodes, part_nodes};

@@ -1,18 +1,20 @@
 //! The turns of settling.
-ghost use Rattle.std.specs.Prelude.{◌≡◌, ◌<◌, ◌≤◌, ◌+◌, ◌*◌, ◌==◌, ◌||◌, ◌&&◌, ℕ, true, not, nat_lt, IfOk, length, [], if◌then◌else◌, slice_index, slice_index_or, count_by, vec_len};
+ghost use Rattle.std.specs.Prelude.{◌≡◌, ◌<◌, ◌≤◌, ◌+◌, ◌*◌, ◌==◌, ◌||◌, ◌&&◌, ℕ, true, not, nat_lt, IfOk, length, List, [], ◌∷◌, ◌++◌, if◌then◌else◌, slice_index, slice_index_or, count_by, vec_len};
 ghost use Rattle.std.specs.List.{list_all};
 ghost use Rattle.plan_graph.specs.Graphs.{ends_within, is_among};
 ghost use Rattle.order_levels.specs.Settling.{all_run};
-ghost use Rattle.order_levels.specs.Sets.{is_member, all_below};
-ghost use Rattle.order_levels.specs.Running.{Running, CanRun};
+ghost use Rattle.node_sets.specs.Sets.{is_member};
+ghost use Rattle.order_levels.specs.Sets.{all_below};
+ghost use Rattle.order_levels.specs.Running.{Running, CanRun, IsReadyNow};
 
 use crate::lists::{source_counts, target_lists};
-use crate::node_set::NodeSet;
+use node_sets::NodeSet;
 use plan_graph::Edge;
 use sqlite_items::Items;
 use std::alloc::{AllocError, Global};
 
-/// What the turns look at besides the nodes that have run.
+/// What the turns look at besides the nodes that have run. Whoever picks the nodes himself may take his turns by
+/// [`Turns::run`].
 #[derive(Drop)]
 pub struct Turns {
     /// For each node, where the edges from it lead.
@@ -38,6 +40,24 @@ pub fn run_all(alloc: Global, nodes: u32, edges: &[Edge]) -> Result<Vec<u32>, Al
         run_node(&mut turns, n);
     }
     Ok(ran)
+}
+
+impl Turns {
+    /// The turns of a graph of so many nodes before any has run.
+    pub fn at_first(alloc: Global, nodes: u32, edges: &[Edge]) -> Result<Turns, AllocError>
+        requires ends { list_all (ends_within nodes) edges.now ≡ true }
+        ensures running { IfOk result (λ t. Running nodes edges.now [] t.targets.items t.waits.items t.ready.words.items) }
+    {
+        turns_at_first(alloc, nodes, edges)
+    }
+
+    /// A node that is ready has run: it is ready no more, and those that waited for it alone are.
+    pub fn run(&mut self, n: u32)
+        requires ready { IsReadyNow self.old.targets.items self.old.waits.items self.old.ready.words.items n }
+        ensures running { (nodes : ℕ) (edges : List Edge) (ran : List ℕ) → list_all (ends_within nodes) edges ≡ true → Running nodes edges ran self.old.targets.items self.old.waits.items self.old.ready.words.items → Running nodes edges (ran ++ n ∷ []) self.new.targets.items self.new.waits.items self.new.ready.words.items }
+    {
+        run_node(self, n);
+    }
 }
 
 #[tactic(auto, using(crate::proofs::RunLemmas::running_at_first))]

@@ -1,5 +1,5 @@
 -- Directed graphs. Nodes are the numbers below a count, and edges a list.
-use Rattle.std.specs.Prelude.{◌≡◌, ◌≤◌, ℕ, ◌==◌, nat_lt, Bool, true, false, ◌&&◌, List, [], ◌∷◌, length}
+use Rattle.std.specs.Prelude.{◌≡◌, ◌≤◌, ◌+◌, ℕ, ◌==◌, nat_lt, Bool, true, false, ◌&&◌, List, [], ◌∷◌, length}
 use Rattle.std.specs.List.{list_any}
 use Rattle.plan_graph.specs.declared.node.Edge.{Edge}
 
@@ -34,3 +34,27 @@ pub record IsLevel (edges : List Edge) (j : ℕ) (level : ℕ) : Type 0 where
   pub so_long : length path ≡ level
   -- and none has more
   pub longest : (back : List ℕ) → is_path_to j edges back ≡ true → length back ≤ level
+
+-- a path of one edge or more leads from a node to another
+pub record Leads (edges : List Edge) (i j : ℕ) : Type 0 where
+  pub back : List ℕ
+  pub is_path : is_path_to j edges back ≡ true
+  pub starts : is_among i back ≡ true
+
+-- What these nodes cost together.
+abbrev pub cost_of_all : (ℕ → ℕ) → List ℕ → ℕ
+cost_of_all cost [] = 0
+cost_of_all cost (i ∷ more) = cost i + cost_of_all cost more
+
+-- the cost of the costliest path to a node, the node included
+pub record IsCostliest (cost : ℕ → ℕ) (edges : List Edge) (j : ℕ) (most : ℕ) : Type 0 where
+  -- some path to it costs so much
+  pub path : List ℕ
+  pub is_path : is_path_to j edges path ≡ true
+  pub so_much : cost j + cost_of_all cost path ≡ most
+  -- and none costs more
+  pub longest : (back : List ℕ) → is_path_to j edges back ≡ true → cost j + cost_of_all cost back ≤ most
+
+-- an edge the other way round, so that paths from a node are paths to it
+abbrev pub turned : Edge → Edge
+turned e = record { from = e.to; to = e.from }

@@ -7,7 +7,8 @@
 //!
 //! A [`Graph`] has one cost for each node and a list of edges ([`Edge`]); its nodes are numbered from 0. An edge says
 //! that its `to` runs after its `from`. The type keeps that there are fewer than 2^32 nodes and that both ends of each
-//! edge are nodes; an edge may stand in the list twice, and a node may have one to itself.
+//! edge are nodes; an edge may stand in the list twice, and a node may have one to itself. A [`Task`] says where and when
+//! a group of nodes runs.
 //!
 //! # Terms
 //!
@@ -15,10 +16,15 @@
 //!
 //! - a *path* to a node, told from its end: each node of it has an edge to the one before;
 //! - a *cycle*, which is a path to a node that the node itself stands on;
-//! - the *level* of a node, which is the number of edges of the longest path to it.
+//! - the *level* of a node, which is the number of edges of the longest path to it;
+//! - what *leads* where, by a path of one edge or more; and the *costliest* path to a node, whose nodes cost most together.
 //!
-//! `specs/GraphLaws.antt` has what follows for every list of edges: where each edge leads from a lower number to a
-//! higher one there is no cycle.
+//! `specs/Groupings.antt` has those of groups: when each node is in one, which group waits for which, and places in an
+//! order.
+//!
+//! `specs/GraphLaws.antt`, `specs/PathLaws.antt` and `specs/ListLaws.antt` have what follows for every list of edges or
+//! numbers: where each edge leads from a lower number to a higher one there is no cycle; paths can be joined; edges under
+//! other names lead as the edges do; a list of different numbers below a bound is no longer than the bound.
 //!
 //! # What is proved
 //!
@@ -37,8 +43,10 @@
 
 mod graph;
 mod node;
+mod task;
 #[cfg(test)]
 mod tests;
 
 pub use graph::Graph;
 pub use node::{Edge, Node, Part};
+pub use task::Task;

@@ -1,5 +1,5 @@
 use Rattle.std.proofs.Common.{◌≡◌, ◌≤◌, ◌*◌, ◌==◌, ◌&&◌, ℕ, nat_lt, get_or, vec_len}
-use Rattle.order_levels.specs.Sets.{is_member}
+use Rattle.node_sets.specs.Sets.{is_member}
 use Rattle.order_levels.proofs.running.ready_at_first.Given as goal
 
 abbrev pub invariant-loop-n : goal.invariant-loop-n

@@ -1,6 +1,6 @@
 use Rattle.std.proofs.Common.{◌≡◌, ◌+◌, ◌==◌, ◌&&◌, ◌||◌, ℕ, get_or, take, count_by, vec_len}
 use Rattle.plan_graph.specs.Graphs.{is_among}
-use Rattle.order_levels.specs.Sets.{is_member}
+use Rattle.node_sets.specs.Sets.{is_member}
 use Rattle.order_levels.proofs.running.release.Given as goal
 
 abbrev pub invariant-loop-t : goal.invariant-loop-t
