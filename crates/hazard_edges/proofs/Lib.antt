@@ -1,0 +1,3 @@
+pub mod HazardLaws
+pub mod HazardLemmas
+pub mod SpanLemmas
