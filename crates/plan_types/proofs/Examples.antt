@@ -17,7 +17,7 @@ use Rattle.task_eval.specs.declared.op.Op.TheVariants as op
 use Rattle.task_eval.specs.declared.op.One.TheVariants as one
 use Rattle.task_eval.specs.Buses.{Outside, stored, called}
 use Rattle.plan_types.specs.declared.input.InputWord.{InputWord}
-use Rattle.plan_types.specs.Plans.{ascends, group_edges, keeps}
+use Rattle.plan_graph.specs.Groupings.{ascends, group_edges, keeps}
 use Rattle.plan_types.specs.Machine.{event_word, input_vars, input_words, put_inputs, is_edge, kind_fires, fired_of, is_run, run_nodes, ended, rounds, kept_deeds, value_from}
 use Rattle.plan_types.specs.Coded.{code_number}
 use Rattle.plan_types.specs.Room.{calls_if}

@@ -5,8 +5,9 @@ use Rattle.std.proofs.lemmas.Bool.{and_parts, ne_eqb, eq-eqb, le-ltb, lt-ltb, lt
 use Rattle.plan_graph.specs.declared.node.Edge.{Edge}
 use Rattle.plan_graph.specs.Graphs.{ends_within, is_among, HasNoCycle}
 use Rattle.plan_graph.specs.GraphLaws.{rises}
-use Rattle.plan_types.specs.declared.plan.Task.{Task}
-use Rattle.plan_types.specs.Plans.{times, ExactlyOnce, ascends_from, between_groups, is_across, group_edges, keeps, is_on, IsValid}
+use Rattle.plan_graph.specs.declared.task.Task.{Task}
+use Rattle.plan_graph.specs.Groupings.{times, ExactlyOnce, ascends_from, through, is_across, group_from, group_edges, keeps}
+use Rattle.plan_types.specs.Plans.{is_on, IsValid}
 use Rattle.plan_types.specs.OneTask.{groups_of, first_tasks, numbers_of, lists_of}
 
 -- ---- the numbers of a range
@@ -62,7 +63,7 @@ range_has (suc n) a k h l = elim (cases_lt a k) [
 
 -- ---- no edge leads out of the one group
 
-stays : (n : ℕ) (e : Edge) → ends_within n e ≡ true → is_across (between_groups (range_with_len 0 n ∷ []) e) ≡ false
+stays : (n : ℕ) (e : Edge) → ends_within n e ≡ true → is_across (through (group_from 0 (range_with_len 0 n ∷ [])) e) ≡ false
 stays n e within =
     let ends = and_parts (nat_lt e.from n) (nat_lt e.to n) within in
     let from = range_has n 0 e.from (omega arith) (let h = ltb-true e.from n ends.0 in omega arith) in
@@ -74,7 +75,7 @@ none_leaves n [] all = refl
 none_leaves n (e ∷ edges) all =
     let parts = and_parts (ends_within n e) (list_all (ends_within n) edges) all in
     let groups : List (List ℕ) = range_with_len 0 n ∷ [] in
-    ap (λ b. cond b (between_groups groups e ∷ group_edges groups edges) (group_edges groups edges)) (stays n e parts.0) ∙ none_leaves n edges parts.1
+    ap (λ b. cond b (through (group_from 0 groups) e ∷ group_edges groups edges) (group_edges groups edges)) (stays n e parts.0) ∙ none_leaves n edges parts.1
 
 pub no_edge_no_cycle : HasNoCycle []
 no_edge_no_cycle j [] path = refl

@@ -1,7 +1,7 @@
 -- The plan of one group, on thread 0.
 use Rattle.std.specs.Prelude.{ℕ, zero, suc, List, [], ◌∷◌}
 use Rattle.std.specs.List.{range_with_len}
-use Rattle.plan_types.specs.declared.plan.Task.{Task}
+use Rattle.plan_graph.specs.declared.task.Task.{Task}
 
 -- all nodes are the group, and it is no group where there is none
 abbrev pub groups_of : ℕ → List (List ℕ)

@@ -13,7 +13,8 @@
 //! do so is a law in `specs/TouchLaws.antt`).
 //!
 //! A [`ValidPlan`] tells how the nodes of a part run: its nodes in serial order, the graph of which waits for which, the nodes
-//! grouped into tasks, and the tasks on threads. `specs/Plans.antt` says what a valid plan is, and its type keeps it.
+//! grouped into tasks, and the tasks on threads. `specs/Plans.antt` says what a valid plan is, in the words of groups that
+//! `plan_graph` has, and its type keeps it.
 //! [`ValidPlan::one_task`] makes the plan of one thread.
 //!
 //! A [`Runner`] runs a model, eval by eval. A reader sees its words, and the calls of the last eval that are kept, which are
@@ -73,6 +74,7 @@ mod runner;
 
 pub use built::Built;
 pub use input::InputWord;
-pub use plan::{Task, ValidPlan};
+pub use plan::ValidPlan;
+pub use plan_graph::Task;
 pub use run::{MOST_RUNS, RunFault, RunNow};
 pub use runner::Runner;

@@ -4,9 +4,9 @@ ghost use Rattle.std.specs.List.{list_all, range_with_len};
 ghost use Rattle.plan_graph.specs.GraphLaws.{rises};
 ghost use Rattle.plan_types.specs.OneTask.{groups_of, lists_of, numbers_of, first_tasks};
 
-use crate::plan::{Task, ValidPlan};
+use crate::plan::ValidPlan;
 use dpi_host::NoMemory;
-use plan_graph::{Graph, Node};
+use plan_graph::{Graph, Node, Task};
 use sqlite_items::Items;
 use std::alloc::Global;
 

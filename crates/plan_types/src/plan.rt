@@ -2,15 +2,8 @@
 ghost use Rattle.std.specs.Prelude.{◌≡◌, length};
 ghost use Rattle.plan_types.specs.Plans.{IsValid};
 
-use plan_graph::{Graph, Node};
+use plan_graph::{Graph, Node, Task};
 use sqlite_items::Items;
-
-/// A task: the thread that runs a group, and the time at which it may begin, in costs of nodes.
-#[derive(Clone, Copy, Debug, PartialEq, Eq)]
-pub struct Task {
-    pub thread: u32,
-    pub start: u64,
-}
 
 /// How the nodes of a part run. Each edge of the graph leads from a lower node to a higher one. Each node is in exactly
 /// one group, a group runs as one task with its members in serial order, and the groups have no cycle. Each task is in
