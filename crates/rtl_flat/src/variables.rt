@@ -226,7 +226,7 @@ fn put_port(
         Ok(kind) => kind,
         Err(fault) => return Err(FlatFault::from(fault)),
     };
-    let name = copied(alloc, text_of(view.names, port.name))?;
+    let name = copied(alloc, view.names.text_of(port.name.name))?;
     let packed = kind.packed;
     let init = Bits::new(packed.kind.width, 0);
     let Ok(()) = all.push(HeldVar { name, packed, init }) else {

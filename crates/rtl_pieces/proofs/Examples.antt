@@ -9,7 +9,7 @@ use Rattle.rtl_pieces.specs.Line.{has}
 use Rattle.rtl_pieces.specs.Named.{nothing, clipped, named_bits, whole_item}
 use Rattle.rtl_pieces.specs.Ranges.{empty, merged, minus}
 use Rattle.rtl_pieces.specs.Owned.{sweep}
-use Rattle.rtl_pieces.specs.Words.{pieces_from, pieces_of}
+use Rattle.rtl_pieces.specs.Words.{begins, is_cut, pieces_from}
 
 abbrev r : ℕ → ℕ → BitRange
 r from to = record { from = from; to = to }
@@ -82,9 +82,6 @@ a_single_bit_is_one_piece = refl
 abbrev of_width : ℕ → ℕ → Item
 of_width elements width = record { first = 0; elements = elements; width = width; lsb = 0; low = pos 0 }
 
-abbrev p : ℕ → ℕ → Piece
-p bit len = record { bit = bit; len = len }
-
 abbrev nobody : ℕ → Option ℕ
 nobody b = None
 
@@ -96,19 +93,28 @@ both_at place b = if nat_lt b place then Some 0 else Some 1
 abbrev between : ℕ → ℕ → ℕ → Option ℕ
 between from to b = if nat_le from b && nat_lt b to then Some 0 else None
 
-full_is_one_piece : pieces_of nobody (of_width 1 64) ≡ p 0 64 ∷ []
-full_is_one_piece = refl
+a_full_piece_ends : begins nobody 0 64 ≡ true
+a_full_piece_ends = refl
 
-one_bit_more_is_two : pieces_of nobody (of_width 1 65) ≡ p 0 64 ∷ p 64 1 ∷ []
-one_bit_more_is_two = refl
-
-two_full_pieces : pieces_of nobody (of_width 1 128) ≡ p 0 64 ∷ p 64 64 ∷ []
-two_full_pieces = refl
+one_bit_less_goes_on : begins nobody 0 63 ≡ false
+one_bit_less_goes_on = refl
 
 -- it counts from where the writer changes
-from_the_last_cut : pieces_of (both_at 10) (of_width 1 128) ≡ p 0 10 ∷ p 10 64 ∷ p 74 54 ∷ []
+from_the_last_cut : begins (both_at 10) 0 74 ≡ true
 from_the_last_cut = refl
 
+not_from_the_first : begins (both_at 10) 0 64 ≡ false
+not_from_the_first = refl
+
 -- `logic [127:0] m [0:2]; assign m[1][9:0] = a;`: element 1 is cut at 0, 10 and 74, the others at 0 and 64, and so each at all of these
-elements_are_cut_alike : pieces_of (between 128 138) (of_width 3 128) ≡ p 0 10 ∷ p 10 54 ∷ p 64 10 ∷ p 74 54 ∷ []
-elements_are_cut_alike = refl
+cut_where_one_is_full : is_cut (between 128 138) (of_width 3 128) 64 0 3 ≡ true
+cut_where_one_is_full = refl
+
+cut_where_another_writes : is_cut (between 128 138) (of_width 3 128) 10 0 3 ≡ true
+cut_where_another_writes = refl
+
+cut_where_the_rest_is_full : is_cut (between 128 138) (of_width 3 128) 74 0 3 ≡ true
+cut_where_the_rest_is_full = refl
+
+not_cut_again : is_cut (between 128 138) (of_width 3 128) 127 0 3 ≡ false
+not_cut_again = refl
