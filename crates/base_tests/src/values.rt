@@ -112,7 +112,7 @@ fn finds_the_types(rt: HostRuntime) {
 fn extends_operands(rt: HostRuntime) {
     let minus_128 = Bits::new(8, 0x80);
     for (signed, want) in [(true, 0xff80), (false, 0x80)] {
-        let context = of(16, signed);
+        let context = ValueType { width: 16, signed };
         assert_eq!(rt; in_context(minus_128, context), Bits::new(16, want));
     }
 }
