@@ -1,4 +1,4 @@
-use Rattle.std.proofs.Common.{◌<◌, ◌≤◌, ◌-◌, ◌+◌, ◌*◌, ◌^◌, get_or, refl, arith}
+use Rattle.std.proofs.Common.{◌<◌, ◌-◌, ◌+◌, ◌*◌, ◌^◌, get_or, refl, arith}
 use Rattle.std.specs.Int.{leading_zeros, w64}
 use Rattle.node_sets.proofs.SetLemmas.{greatest_below, none_below}
 use Rattle.node_sets.proofs.search.last_below.Goals as goal

@@ -1,5 +1,4 @@
-use Rattle.std.proofs.Common.{◌≡◌, ◌<◌, ◌≤◌, ◌+◌, ◌-◌, ◌*◌, ◌/◌, ◌%◌, ◌^◌, List, ℕ, get_or, bit_and, refl, sym, ap, subst, arith}
-use Rattle.std.specs.Int.{leading_zeros, w64}
+use Rattle.std.proofs.Common.{◌<◌, ◌-◌, ◌*◌, ◌/◌, ◌%◌, ◌^◌, List, ℕ, get_or, bit_and, refl, ap, subst, arith}
 use Rattle.node_sets.proofs.SetLemmas.{last_here, none_lower, before_it, IsBefore}
 use Rattle.node_sets.proofs.node_set.NodeSet.before.Goals as goal
 

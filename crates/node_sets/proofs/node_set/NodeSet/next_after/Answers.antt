@@ -1,5 +1,4 @@
-use Rattle.std.proofs.Common.{◌≡◌, ◌<◌, ◌≤◌, ◌+◌, ◌*◌, ◌/◌, ◌%◌, ◌^◌, List, ℕ, get_or, vec_len, refl, sym, ap, subst, arith}
-use Rattle.std.specs.Int.{trailing_zeros, w64}
+use Rattle.std.proofs.Common.{◌<◌, ◌/◌, ◌%◌, ◌^◌, List, ℕ, get_or, refl, ap, subst, arith}
 use Rattle.node_sets.proofs.SetLemmas.{next_here, none_here, next_behind, IsNext}
 use Rattle.node_sets.proofs.node_set.NodeSet.next_after.Goals as goal
 
