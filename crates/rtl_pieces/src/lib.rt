@@ -12,9 +12,9 @@
 //!   indices of its selects name, but for those that it writes. A select of constants names its own bits, and none where it is
 //!   out of range; any other select names the whole variable or memory.
 //! - A bit's *writer* is the first process that writes it. Where [`drivers`] answers `Ok` there is no other.
-//! - A *piece* is a run of neighbouring bits of a variable, or of an element of a memory, with the same writer or none, as long
-//!   as possible from its low end. All elements of one memory are cut at the same places, namely wherever one of them is cut. A
-//!   piece has at most [`vs_base::limits::WIDTH`] bits, since an element has no more.
+//! - A *piece* is a run of at most [`vs_base::limits::WORD`] neighbouring bits of a variable, or of an element of a memory, with
+//!   the same writer or none, as long as possible from its low end. All elements of one memory are cut at the same places,
+//!   namely wherever this rule cuts one of them; the rule is not applied again after that.
 //! - The *words* of a [`Layout`] are word 0, which belongs to the table and holds no bit (its length is 0 and its
 //!   bit that of place 0); then the pieces in the order of bits; then a *shadow* of each piece that a clocked process writes, in
 //!   the same order.
@@ -25,8 +25,8 @@
 //!   where they touch, and, for what is read, what is written is taken away. What comes out ascends, with gaps between.
 //! - [`drivers`] sorts the ranges of all processes by their first places and sweeps over them with the one that reaches
 //!   furthest. The first range that begins below that reach and is of another process begins at the least doubly written bit.
-//! - [`cut`] notes the writer of each bit, where there are few enough bits for [`vs_base::limits::WORDS`] words, and
-//!   compares neighbours.
+//! - [`cut`] notes the writer of each bit, where there are few enough bits for [`vs_base::limits::WORDS`] words, compares
+//!   neighbours, and marks for each item the bits at which some element is cut.
 //! - [`words_of`] finds the words that have bits of a range: they stand side by side, since words are in the order of bits.
 //!
 //! # What is proved
@@ -39,7 +39,7 @@
 //!   the first two of them.
 //! - [`cut`] gives just the words that `Words` defines. Their pieces stand one behind the other and cover the line, so each bit
 //!   of each variable and element is in just one of them; a piece lies in one element, and its bits have one writer or
-//!   none. `TooMany` comes only where there are too many.
+//!   none; no word has more bits than a word may have. `TooMany` comes only where there are too many.
 //! - [`words_of`] gives just the words that have a bit of a range.
 //!
 //! Only want of memory may come at any time.
