@@ -1,6 +1,6 @@
 //! Numbers that constant expressions give.
 
-ghost use Rattle.std.specs.Prelude.{◌≡◌, pos, IfOk};
+ghost use Rattle.std.specs.Prelude.{◌≡◌, ◌-ℤ◌, ◌+ℤ◌, pos, IfOk, IfSome};
 ghost use Rattle.rtl_lower.specs.Kinds.{type_of};
 ghost use Rattle.sv_expr.specs.Environment.{environment};
 ghost use Rattle.sv_expr.specs.Meaning.{ValueOf, OwnReadingOf, part_width as part_bits};
@@ -55,7 +55,42 @@ pub fn part_width(mark: Symbol, from: &Expr, to: &Expr, here: &Here<'_>) -> Resu
         return width_of(i128::from(to.nearest()));
     }
     let from = number(from, here)?;
-    width_of(i128::from(from.minus(to)) + 1)
+    down_width(from, to)
+}
+
+// The bits from one index down to another.
+fn down_width(from: Whole, to: Whole) -> Result<Width, FlatFault>
+    ensures { IfOk result (λ width. pos width ≡ (from -ℤ to) +ℤ pos 1) }
+{
+    let Some(bits) = bits_down(from, to) else {
+        return Err(FlatFault::NotElaborated);
+    };
+    width_in(bits)
+}
+
+// How many bits there are from one index down to another, where they are from 1 to 2^31.
+fn bits_down(from: Whole, to: Whole) -> Option<u32>
+    ensures { IfSome result (λ bits. pos bits ≡ (from -ℤ to) +ℤ pos 1) }
+{
+    let below = from.minus(to);
+    if below < 0 {
+        return None;
+    }
+    if below >= 1 << 31 {
+        return None;
+    }
+    let below = below as u32;
+    Some(below + 1)
+}
+
+// So many bits, where a type may have them.
+fn width_in(bits: u32) -> Result<Width, FlatFault>
+    ensures { IfOk result (λ width. width ≡ bits) }
+{
+    if bits < 1 || bits > limits::WIDTH {
+        return Err(FlatFault::NotElaborated);
+    }
+    Ok(Width::new(bits))
 }
 
 /// So many bits.
