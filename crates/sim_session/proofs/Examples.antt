@@ -99,7 +99,7 @@ put_together = refl
 line_of_one_output : line_room vars (1 ∷ 9 ∷ []) ports ≡ 27
 line_of_one_output = refl
 
-longest_of_two : longest (f ∷ record f { name = codes "longer" } ∷ []) ≡ 83
+longest_of_two : longest (f ∷ record f { name = codes "longer" } ∷ []) ≡ 131
 longest_of_two = refl
 
 -- ---- the entries of eval 3, of values before and after it
